@@ -6,7 +6,7 @@ use mathlib.Core.Logic.{_⊎_, inl, inr}
 use mathlib.Core.Option.{none, some}
 use mathlib.Core.Path.{_≡_, ap, refl}
 use Rattle.block_records.proofs.Tests.{clash, on, some-not-none}
-use Rattle.block_records.specs.Lists.{each, find, filter}
+use Rattle.block_records.specs.Lists.{each, filter, find}
 
 module _ {A : Type 0} where
   pub find-passes : (p : A → Bool) (xs : List A) {a : A} → find p xs ≡ some a → p a ≡ true

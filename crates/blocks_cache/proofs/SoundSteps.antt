@@ -17,7 +17,8 @@ use Rattle.block_records.proofs.ListLaws.{all-each, length-each, rising-each}
 use Rattle.block_records.proofs.Tests.{and-intro, and-left, and-right, on, some-not-none}
 use Rattle.block_records.specs.BlockIds.{id-shard, is-masterchain, key, key-shard, listed-keys}
 use Rattle.block_records.specs.Entries.{Entry, is-applied, with-kind}
-use Rattle.block_records.specs.Lists.{each, fold, filter, pick}
+use Rattle.block_records.specs.Lists.{each, filter, fold, pick}
+use Rattle.block_records.specs.Questions.{Question, first-no}
 use Rattle.blocks_cache.proofs.CountLaws.{places}
 use Rattle.blocks_cache.proofs.RangeLaws.{effect-range}
 use Rattle.blocks_cache.proofs.ShardLaws.{ShardsOk, shards-change}
@@ -27,7 +28,7 @@ use Rattle.blocks_cache.specs.Calls.{Call, Request, Validation, collect,
 use Rattle.blocks_cache.specs.Effects.{after, answered, bound-one, collect-ids, collect-shard, do-collect, effect, extracted-model, masters-without, peek-entry, pop-entry, remove-ids, remove-one, step, sync-entry, tail-ids-entry, validate-entry, validate-kind, validated-kind}
 use Rattle.blocks_cache.specs.Extraction.{Walk, extraction-of, first-walk, previous-cached, starting-ids, take-found, take-id, take-one, take-times}
 use Rattle.blocks_cache.specs.Model.{Model, Range, ShardModel, empty-model, first-applied, lookup, moved-start, remove-block, shard-before}
-use Rattle.blocks_cache.specs.Refusals.{Question, first-no, further, questions, shard-sound, sound}
+use Rattle.blocks_cache.specs.Refusals.{further, questions, shard-sound, sound}
 use Rattle.blocks_group.proofs.GroupLaws.{at-seqno-fits, group-bound, group-change, group-filter}
 use Rattle.blocks_group.specs.GroupRules.{GroupModel, at-seqno, below-boundary, collated-above, has-seqno, refresh, with-boundary, without-collated-above}
 use Rattle.blocks_group.specs.GroupSoundness.{group-sound, of-shard}

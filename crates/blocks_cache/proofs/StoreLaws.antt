@@ -11,9 +11,9 @@ use borrow.Author.Tests.{eq-eqb, eqb-true, le-leb, le-ltb, leb-true, ltb-true}
 use lib.Dec.{eqb, leb, ltb}
 use lib.ListN.{length, take}
 use Rattle.block_records.specs.declared.block_id.BlockId.{BlockId}
-use Rattle.block_records.specs.declared.block_id.PrevIds.{PrevIds}
 use Rattle.block_records.specs.declared.block_id.ShardIdent.{ShardIdent}
 use Rattle.block_records.specs.declared.store_records.BlockCandidate.{BlockCandidate}
+use Rattle.block_records.specs.declared.store_records.PrevIds.{PrevIds}
 use Rattle.block_records.specs.declared.store_records.ReceivedBlock.{ReceivedBlock}
 use Rattle.block_records.specs.declared.top_block.TopBlock.{TopBlock}
 use Rattle.block_records.specs.declared.top_block.TopBlocks.{TopBlocks}
@@ -21,9 +21,9 @@ use Rattle.block_records.proofs.BlockIdLaws.{same-shard-refl}
 use Rattle.block_records.proofs.Finds.{find-member, find-passes}
 use Rattle.block_records.proofs.ListLaws.{all-filter, all-put, by-number, length-filter, length-put, length-put-same, rising-filter, rising-put}
 use Rattle.block_records.proofs.Tests.{and-intro, and-left, and-right, clash, not-true, on}
-use Rattle.block_records.specs.BlockIds.{id-shard, is-masterchain, listed-ids, listed-tops}
+use Rattle.block_records.specs.BlockIds.{id-shard, is-masterchain, listed-prev-ids, listed-tops}
 use Rattle.block_records.specs.Entries.{Entry, fresh-collated, fresh-received}
-use Rattle.block_records.specs.Lists.{all, find, filter, pick, present, put}
+use Rattle.block_records.specs.Lists.{all, filter, find, pick, present, put}
 use Rattle.block_records.specs.Questions.{counts-fit, entry-fits, id-fits, links-fit, seqno-fits, seqnos-fit, top-fits, top-outside}
 use Rattle.blocks_cache.proofs.ShardLaws.{group-of-sound, shards-set}
 use Rattle.blocks_cache.proofs.SoundLaws.{IdsOk, Rest}
@@ -211,19 +211,19 @@ take-length (suc n) [] = omega arith
 take-length (suc n) (x ∷ xs) = let ih = take-length n xs in omega arith
 
 counts-listed : (i : BlockId) (previous : PrevIds) (tops : TopBlocks) → counts-fit i (previous .count) (tops .count) ≡ true →
-    counts-fit i (length (listed-ids previous)) (length (listed-tops tops)) ≡ true
+    counts-fit i (length (listed-prev-ids previous)) (length (listed-tops tops)) ≡ true
 counts-listed i previous tops h =
     let a : leb (previous .count) 2 ≡ true = search (and-left, and-right) in
     let b : leb (tops .count) 8 ≡ true = search (and-left, and-right) in
     let c : is-masterchain (id-shard i) || eqb (tops .count) 0 ≡ true = search (and-left, and-right) in
-    and-intro (le-leb (length (listed-ids previous)) 2 (omega (arith, take-length (previous .count) (previous .ids), leb-true (previous .count) 2 a)))
+    and-intro (le-leb (length (listed-prev-ids previous)) 2 (omega (arith, take-length (previous .count) (previous .ids), leb-true (previous .count) 2 a)))
     (and-intro (le-leb (length (listed-tops tops)) 8 (omega (arith, take-length (tops .count) (tops .items), leb-true (tops .count) 8 b)))
     (on (is-masterchain (id-shard i)) (λ t. rw t)
     (λ t. let z = eqb-true (tops .count) 0 (or-false (is-masterchain (id-shard i)) (eqb (tops .count) 0) c t) in
     rw t (eq-eqb (length (listed-tops tops)) 0 (omega (arith, take-length (tops .count) (tops .items)))))))
 
-pub candidate-fits : (c : BlockCandidate) → seqnos-fit (c .«block_id») (c .«ref_by_mc_seqno») (listed-ids (c .«prev_ids»)) (listed-tops (c .«top_blocks»)) ≡ true →
-    counts-fit (c .«block_id») (c .«prev_ids» .count) (c .«top_blocks» .count) ≡ true → links-fit (c .«block_id») (listed-ids (c .«prev_ids»)) (listed-tops (c .«top_blocks»)) ≡ true →
+pub candidate-fits : (c : BlockCandidate) → seqnos-fit (c .«block_id») (c .«ref_by_mc_seqno») (listed-prev-ids (c .«prev_ids»)) (listed-tops (c .«top_blocks»)) ≡ true →
+    counts-fit (c .«block_id») (c .«prev_ids» .count) (c .«top_blocks» .count) ≡ true → links-fit (c .«block_id») (listed-prev-ids (c .«prev_ids»)) (listed-tops (c .«top_blocks»)) ≡ true →
     entry-fits (fresh-collated c) ≡ true
 candidate-fits c x y z = and-intro x (and-intro (counts-listed (c .«block_id») (c .«prev_ids») (c .«top_blocks») y) z)
 
@@ -240,9 +240,9 @@ entry-drop true i ref ps ts x y z =
     let e : all top-outside ts ≡ true = search (and-left, and-right) in
     and-intro (and-intro a (and-intro b (and-intro refl c))) (and-intro (and-intro refl d) (and-intro refl e))
 
-pub receipt-fits : (z : ℕ) (r : ReceivedBlock) → seqnos-fit (r .«block_id») (r .«ref_block_id» .seqno) (listed-ids (r .«prev_ids»)) (listed-tops (r .«top_blocks»)) ≡ true →
-    counts-fit (r .«block_id») (r .«prev_ids» .count) (r .«top_blocks» .count) ≡ true → links-fit (r .«block_id») (listed-ids (r .«prev_ids»)) (listed-tops (r .«top_blocks»)) ≡ true →
+pub receipt-fits : (z : ℕ) (r : ReceivedBlock) → seqnos-fit (r .«block_id») (r .«ref_block_id» .seqno) (listed-prev-ids (r .«prev_ids»)) (listed-tops (r .«top_blocks»)) ≡ true →
+    counts-fit (r .«block_id») (r .«prev_ids» .count) (r .«top_blocks» .count) ≡ true → links-fit (r .«block_id») (listed-prev-ids (r .«prev_ids»)) (listed-tops (r .«top_blocks»)) ≡ true →
     entry-fits (fresh-received z r) ≡ true
 receipt-fits z r x y w =
-    entry-drop (eqb (r .«ref_block_id» .seqno) z) (r .«block_id») (r .«ref_block_id» .seqno) (listed-ids (r .«prev_ids»)) (listed-tops (r .«top_blocks»)) x
+    entry-drop (eqb (r .«ref_block_id» .seqno) z) (r .«block_id») (r .«ref_block_id» .seqno) (listed-prev-ids (r .«prev_ids»)) (listed-tops (r .«top_blocks»)) x
     (counts-listed (r .«block_id») (r .«prev_ids») (r .«top_blocks») y) w

@@ -18,7 +18,7 @@ use Rattle.block_records.proofs.ListLaws.{all-member, length-each}
 use Rattle.block_records.proofs.Tests.{and-left, and-right, clash, on}
 use Rattle.block_records.specs.BlockIds.{id-shard, key}
 use Rattle.block_records.specs.Entries.{Entry}
-use Rattle.block_records.specs.Lists.{all, each, fold, flat-map, rising}
+use Rattle.block_records.specs.Lists.{all, each, flat-map, fold, rising}
 use Rattle.block_records.specs.Questions.{entry-fits, previous-fits}
 use Rattle.blocks_cache.proofs.SoundLaws.{cached-fits, looked-up, lookup-cached, parts}
 use Rattle.blocks_cache.proofs.TailFifo.{fifo-unique}

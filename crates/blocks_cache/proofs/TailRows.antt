@@ -14,7 +14,7 @@ use Rattle.block_records.proofs.ListLaws.{by-order, rising-put}
 use Rattle.block_records.proofs.Tests.{and-intro, and-left, and-right, clash, on, some-not-none}
 use Rattle.block_records.specs.BlockIds.{id-shard, key, less-id, same-shard}
 use Rattle.block_records.specs.Entries.{Entry}
-use Rattle.block_records.specs.Lists.{all, find, fold, flat-map, pick, present, put, rising}
+use Rattle.block_records.specs.Lists.{all, find, flat-map, fold, pick, present, put, rising}
 use Rattle.blocks_cache.specs.Calls.{TailRow}
 use Rattle.blocks_cache.specs.Edges.{same}
 use Rattle.blocks_cache.specs.Model.{ShardModel, lookup}

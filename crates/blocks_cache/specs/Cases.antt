@@ -14,8 +14,8 @@ use Rattle.block_records.specs.declared.entry.BlockCacheEntryData.the-variants.
 use Rattle.block_records.specs.declared.entry.CandidateStatus.the-variants.{Validated, ValidationSkipped}
 use Rattle.block_records.specs.BlockIds.{id-shard, is-masterchain, key, less-id, less-shard, same-id, same-shard}
 use Rattle.block_records.specs.Entries.{Entry}
-use Rattle.block_records.specs.EntryLayout.{zero-entry, zero-id, zero-top}
 use Rattle.block_records.specs.Lists.{each, flat-map, last, padded}
+use Rattle.block_records.specs.Zeros.{zero-entry, zero-id, zero-top}
 use Rattle.blocks_cache.specs.Calls.{Answer, Call, Extract, Outcome, already-extracted, collect, complete, done, extracted, handed, no-change, nothing, peek, peeked, popped, read-tail-ids, refused, set-boundary, skipped, store-validation, stored, synced, tail-ids, validated}
 use Rattle.blocks_cache.specs.CaseCalls.{ask-call, block, cand, candidate, coll, hash, keys, mc, mc′, pop-call, recv, sc, slice, sync-call, top}
 use Rattle.blocks_cache.specs.Effects.{after, effect, run, step}

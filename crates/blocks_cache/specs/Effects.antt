@@ -19,11 +19,12 @@ use Rattle.block_records.specs.declared.store_records.ReceivedBlock.{ReceivedBl
 use Rattle.block_records.specs.BlockIds.{id-shard, is-masterchain, key-shard, listed-keys}
 use Rattle.block_records.specs.Entries.{Entry, is-applied, same-status, with-kind}
 use Rattle.block_records.specs.EntryLayout.{pack-entry}
-use Rattle.block_records.specs.Lists.{each, fold, filter, last, pick, put}
+use Rattle.block_records.specs.Lists.{each, filter, fold, last, pick, put}
+use Rattle.block_records.specs.Questions.{first-no}
 use Rattle.blocks_cache.specs.Calls.{Answer, Call, Effect, Extract, Outcome, Request, Validation, already-extracted, collect, complete, done, extracted, no-change, nothing, peek, peeked, pop, popped, read-tail-ids, refused, remove-next-collated, set-boundary, skipped, store-collated, store-received, store-validation, stored, sync, synced, tail-ids, validated}
 use Rattle.blocks_cache.specs.Extraction.{Walk, extraction-of, starting-items, view-tops}
 use Rattle.blocks_cache.specs.Model.{Model, Range, ShardModel, entry-for, first-applied, group-for, id-before, ids-below, ids-from, is-last, moved-end, moved-start, on-shard, with-data, with-group, with-masters, with-shards}
-use Rattle.blocks_cache.specs.Refusals.{first-no, is-synced, questions}
+use Rattle.blocks_cache.specs.Refusals.{is-synced, questions}
 use Rattle.blocks_cache.specs.TailIds.{tails-of}
 use Rattle.blocks_group.specs.GroupRules.{GroupModel, Stored, at-seqno, below-boundary, changed-entries, collated-above, collected, entry-before, refresh, store-collated-at, store-received-at, with-boundary, with-entries, without, without-collated-above}
 

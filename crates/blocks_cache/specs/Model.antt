@@ -10,7 +10,7 @@ use Rattle.block_records.specs.declared.block_id.BlockIdShort.{BlockIdShort}
 use Rattle.block_records.specs.declared.block_id.ShardIdent.{ShardIdent}
 use Rattle.block_records.specs.BlockIds.{id-shard, is-masterchain, key-shard, less-shard, same-shard}
 use Rattle.block_records.specs.Entries.{Entry, is-applied}
-use Rattle.block_records.specs.Lists.{each, find, filter, pick, present, put}
+use Rattle.block_records.specs.Lists.{each, filter, find, pick, present, put}
 use Rattle.blocks_group.specs.GroupRules.{GroupModel, at-seqno, empty-group, refresh, with-entries, without}
 
 -- ===== Master data: last collated ids by seqno, and the applied range =====

@@ -8,7 +8,7 @@ use lib.Dec.{eqb}
 use Rattle.block_records.specs.declared.block_id.BlockId.{BlockId}
 use Rattle.block_records.specs.BlockIds.{id-shard, key, less-id, less-shard, same-shard}
 use Rattle.block_records.specs.Entries.{Entry}
-use Rattle.block_records.specs.Lists.{each, find, fold, flat-map, pick, present, put}
+use Rattle.block_records.specs.Lists.{each, find, flat-map, fold, pick, present, put}
 use Rattle.blocks_cache.specs.Calls.{TailRow}
 use Rattle.blocks_cache.specs.Extraction.{top-id}
 use Rattle.blocks_cache.specs.Model.{ShardModel, lookup}

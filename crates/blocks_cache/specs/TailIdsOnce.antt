@@ -6,7 +6,7 @@ use Prim.Native.Nat.{suc, zero, ℕ}
 use Rattle.block_records.specs.declared.block_id.BlockId.{BlockId}
 use Rattle.block_records.specs.BlockIds.{same-id}
 use Rattle.block_records.specs.Entries.{Entry}
-use Rattle.block_records.specs.Lists.{find, fold, flat-map, pick, present}
+use Rattle.block_records.specs.Lists.{find, flat-map, fold, pick, present}
 use Rattle.blocks_cache.specs.Calls.{TailRow, done}
 use Rattle.blocks_cache.specs.Extraction.{previous-cached}
 use Rattle.blocks_cache.specs.Model.{ShardModel}

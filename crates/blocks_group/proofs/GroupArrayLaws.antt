@@ -9,8 +9,9 @@ use Rattle.block_records.specs.declared.top_block.TopBlocks.{TopBlocks}
 use Rattle.block_records.proofs.ListLaws.{length-each}
 use Rattle.block_records.proofs.Tests.{on}
 use Rattle.block_records.specs.Entries.{Entry}
-use Rattle.block_records.specs.EntryLayout.{entry-tops, pack-entry, pack-master, zero-entry, zero-tops}
+use Rattle.block_records.specs.EntryLayout.{entry-tops, pack-entry, pack-master}
 use Rattle.block_records.specs.Lists.{each, filter, padded, put}
+use Rattle.block_records.specs.Zeros.{zero-entry, zero-tops}
 use Rattle.blocks_group.proofs.GroupLayoutLaws.{take-padded-each}
 use Rattle.blocks_group.specs.GroupArrays.{filter-beside, listed-entries, put-beside, put-master, put-record, record-before, retain-masters, retain-records, with-records}
 use Rattle.blocks_group.specs.GroupLayout.{pack-boundary, pack-group, pack-mark, pack-master-group}

@@ -9,8 +9,8 @@ use Rattle.block_records.specs.declared.entry.BlockCacheEntry.{BlockCacheEntry}
 use Rattle.block_records.specs.declared.entry.MasterBlock.{MasterBlock}
 use Rattle.blocks_group.specs.declared.Group.{Group}
 use Rattle.blocks_group.specs.declared.MasterGroup.{MasterGroup}
-use Rattle.block_records.specs.EntryLayout.{zero-entry, zero-tops}
 use Rattle.block_records.specs.Lists.{filter, padded, pick, put}
+use Rattle.block_records.specs.Zeros.{zero-entry, zero-tops}
 
 abbrev pub record-before : BlockCacheEntry → BlockCacheEntry → Bool
 record-before a b = ltb (a .«block_id» .seqno) (b .«block_id» .seqno)
