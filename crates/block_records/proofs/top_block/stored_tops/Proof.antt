@@ -1,10 +1,11 @@
 -- The invariant of the loop: the elements so far have been copied, and zeros stand after them.
 -- Assumes nothing.
 use Prim.Native.Nat.{_≤_, _-_}
-use mathlib.Core.Path.{_≡_, sym, _∙_}
+use mathlib.Core.Path.{_≡_, sym, ap, _∙_}
 use native.Mathlib.Omega.{arith}
 use borrow.Author.Needs.{needs}
-use lib.ListN.{length, take}
+use lib.ListN.{length, replicate, take}
+use Rattle.block_records.specs.declared.top_block.TopBlock.{TopBlock}
 use Rattle.block_records.specs.Lists.{padded}
 use Rattle.block_records.specs.Zeros.{zero-top}
 use Rattle.block_records.proofs.LoopLaws.{padded-nil, fill-next, fill-count, fill-end, length-mapped}
@@ -25,7 +26,7 @@ zero-top-requires : tie.Need-zero-top-requires Inv-loop μ-loop
 zero-top-requires c κs = search needs
 
 loop-holds : tie.Need-loop-holds Inv-loop μ-loop
-loop-holds c = (search needs, (search needs, rw (c .zero-top .ensures) (sym (padded-nil 8 zero-top))))
+loop-holds c = (search needs, (search needs, ap (λ (z : TopBlock). replicate 8 z) (c .zero-top .ensures) ∙ sym (padded-nil 8 zero-top)))
 
 returns : tie.Need-returns Inv-loop μ-loop
 returns c =
