@@ -16,7 +16,7 @@ use Rattle.block_records.specs.declared.store_records.BlockCandidate.{BlockCand
 use Rattle.block_records.specs.declared.store_records.ReceivedBlock.{ReceivedBlock}
 use Rattle.block_records.specs.declared.top_block.TopBlock.{TopBlock}
 use Rattle.block_records.proofs.BlockIdLaws.{same-shard-true}
-use Rattle.block_records.proofs.Finds.{find-filter-none, find-filter-same, find-member, find-passes, filter-member, member-filter}
+use Rattle.block_records.proofs.Finds.{filter-member, find-filter-none, find-filter-same, find-member, find-passes, member-filter}
 use Rattle.block_records.proofs.ListLaws.{all-filter, all-member, all-put, by-number, length-filter, length-put, length-put-same, rising-filter, rising-put}
 use Rattle.block_records.proofs.Tests.{and-intro, and-left, and-right, clash, not-true, on}
 use Rattle.block_records.specs.BlockIds.{id-shard, is-masterchain, key-shard, same-id, same-shard}

@@ -7,8 +7,8 @@ use lib.Dec.{ltb}
 use lib.ListN.{length, take}
 use Rattle.block_records.specs.declared.entry.BlockCacheEntry.{BlockCacheEntry}
 use Rattle.block_records.specs.declared.entry.MasterBlock.{MasterBlock}
-use Rattle.blocks_group.specs.declared.Group.{Group}
-use Rattle.blocks_group.specs.declared.MasterGroup.{MasterGroup}
+use Rattle.blocks_group.specs.declared.group.Group.{Group}
+use Rattle.blocks_group.specs.declared.group.MasterGroup.{MasterGroup}
 use Rattle.block_records.specs.EntryLayout.{zero-entry, zero-tops}
 use Rattle.block_records.specs.Lists.{filter, padded, pick, put}
 

@@ -14,7 +14,7 @@ use Rattle.block_records.specs.declared.store_records.BlockCandidate.{BlockCand
 use Rattle.block_records.specs.declared.store_records.ReceivedBlock.{ReceivedBlock}
 use Rattle.block_records.specs.BlockIds.{id-shard, is-masterchain, same-id}
 use Rattle.block_records.specs.Entries.{Entry, fresh-collated, fresh-received, is-received, with-kind}
-use Rattle.block_records.specs.Lists.{find, filter, pick, put}
+use Rattle.block_records.specs.Lists.{filter, find, pick, put}
 
 -- Entries by rising seqno, an optional synced mark, an optional boundary key.
 pub record GroupModel : Type 0 where
