@@ -2,7 +2,7 @@
 -- Assumes nothing.
 use mathlib.Core.Bool.{Bool, false, true}
 use mathlib.Core.List.{List, [], _++_, _∷_, append-assoc, append-nil}
-use mathlib.Core.Path.{_∙_, _≡_, ap, refl, sym}
+use mathlib.Core.Path.{_∙_, _≡_, ap, refl, subst, sym}
 use Prim.Native.Nat.{_+_, _-_, _<_, _≤_, suc, zero, ℕ}
 use native.Mathlib.Nat.{le-refl, sub-zero}
 use native.Mathlib.Numerals.{add-one}
@@ -14,7 +14,7 @@ use lib.Seq.{getD-append-add, getD-at, getD-drop, getD-take, length-take-le, set
 use Rattle.block_records.proofs.ListLaws.{length-each}
 use Rattle.block_records.proofs.Tests.{and-left, and-right, on}
 use Rattle.block_records.specs.Lists.{all, each, filter, padded, pick, put}
-use Rattle.blocks_group.specs.GroupArrays.{flagged, spliced}
+use Rattle.blocks_group.specs.GroupArrays.{Splices, flagged, listed-count, spliced}
 
 -- a count, or the number of places where it is past them
 pub within-few : (size n : ℕ) → pick (ltb n size) n size ≤ size
@@ -138,33 +138,69 @@ module _ {A : Type 0} (at from : ℕ) (a : A) (xs : List A) (p : at ≤ from) (q
       let e : j ≡ length (take at xs) + suc (j - at - 1) = omega arith in
       ap (λ (i : ℕ). getD (spliced at from a xs) i d) e ∙ getD-append-add (take at xs) (a ∷ drop from xs) (suc (j - at - 1)) d ∙ getD-drop from xs (j - at - 1) d
 
--- a loop that fills an array with the first k of l so changed, at place j
-module _ {A : Type 0} (n : ℕ) (z : A) (at from : ℕ) (a : A) (l : List A) (k : ℕ) (p : at ≤ from) (q : from ≤ k) (r : at + 1 + (k - from) ≤ n) (few : k ≤ length l)
-    (out : List A) (j : ℕ) (o : out ≡ padded n z (take j (spliced at from a (take k l)))) where
+-- a loop that fills an array of 16 places with the first k of l so changed, n elements in all, at place j: where it stands
+pub record Splicing {A : Type 0} (z : A) (at from : ℕ) (a : A) (l : List A) (k n j : ℕ) (out : List A) : Type 0 where
+  pub few : k ≤ 16
+  pub split : Splices at from k
+  pub whole : n ≡ at + 1 + (k - from)
+  pub bound : j ≤ n
+  pub places : out ≡ padded 16 z (take j (spliced at from a (take k l)))
+
+module _ {A : Type 0} (z : A) (at from : ℕ) (a : A) (l : List A) (k n j : ℕ) (out : List A) (s : Splicing z at from a l k n j out) (long : length l ≡ 16) where
+  listed : length (take k l) ≡ k
+  listed = length-take-le k l (omega (arith, s .few))
+
   within : from ≤ length (take k l)
-  within = omega (arith, length-take-le k l few)
+  within = omega (arith, listed, s .split .within)
 
-  pub spliced-length : length (spliced at from a (take k l)) ≡ at + 1 + (k - from)
-  spliced-length = length-spliced at from a (take k l) p within ∙ ap (λ (i : ℕ). at + 1 + (i - from)) (length-take-le k l few)
+  spliced-total : length (spliced at from a (take k l)) ≡ n
+  spliced-total = length-spliced at from a (take k l) (s .split .order) within ∙ ap (λ (i : ℕ). at + 1 + (i - from)) listed ∙ sym (s .whole)
 
-  splice-turn : (v d : A) → v ≡ getD (spliced at from a (take k l)) j d → j < at + 1 + (k - from) → set out j v ≡ padded n z (take (j + 1) (spliced at from a (take k l)))
-  splice-turn v d e h = let m = spliced-length in fill-next n z (spliced at from a (take k l)) out j v d o e (omega arith) (omega arith)
+  turn : (v d : A) → v ≡ getD (spliced at from a (take k l)) j d → j < n → Splicing z at from a l k n (j + 1) (set out j v)
+  turn v d e h =
+      let m = spliced-total in
+      let r = s .split .room in
+      let w = s .whole in
+      record {
+        few = s .few;
+        split = s .split;
+        whole = w;
+        bound = omega arith;
+        places = fill-next 16 z (spliced at from a (take k l)) out j v d (s .places) e (omega arith) (omega arith);
+      }
 
-  pub splice-before : (d : A) → j < at → set out j (getD l j d) ≡ padded n z (take (j + 1) (spliced at from a (take k l)))
-  splice-before d h =
-      splice-turn (getD l j d) d (sym (spliced-before at from a (take k l) p within j d h ∙ getD-take k l j d (omega arith))) (omega arith)
+  pub splice-before : (d : A) → j < at → j < n → Splicing z at from a l k n (j + 1) (set out j (getD l j d))
+  splice-before d h b =
+      let p = s .split in
+      turn (getD l j d) d (sym (spliced-before at from a (take k l) (p .order) within j d h ∙ getD-take k l j d (omega arith))) b
 
-  pub splice-here : j ≡ at → set out j a ≡ padded n z (take (j + 1) (spliced at from a (take k l)))
-  splice-here e =
-      splice-turn a a (sym (ap (λ (i : ℕ). getD (spliced at from a (take k l)) i a) e ∙ spliced-here at from a (take k l) p within a)) (omega arith)
+  pub splice-here : j ≡ at → j < n → Splicing z at from a l k n (j + 1) (set out j a)
+  splice-here e b =
+      turn a a (sym (ap (λ (i : ℕ). getD (spliced at from a (take k l)) i a) e ∙ spliced-here at from a (take k l) (s .split .order) within a)) b
 
-  pub splice-after : (d : A) → at < j → j < at + 1 + (k - from) → set out j (getD l (from + (j - at - 1)) d) ≡ padded n z (take (j + 1) (spliced at from a (take k l)))
-  splice-after d h m =
-      splice-turn (getD l (from + (j - at - 1)) d) d
-      (sym (spliced-after at from a (take k l) p within j d h ∙ getD-take k l (from + (j - at - 1)) d (omega arith))) m
+  pub splice-after : (d : A) → at ≤ j → (j ≡ at → ⊥) → j < n → Splicing z at from a l k n (j + 1) (set out j (getD l (from + (j - at - 1)) d))
+  splice-after d h e b =
+      let w = s .whole in
+      turn (getD l (from + (j - at - 1)) d) d
+      (sym (spliced-after at from a (take k l) (s .split .order) within j d (omega arith) ∙ getD-take k l (from + (j - at - 1)) d (omega arith))) b
 
-  pub splice-end : at + 1 + (k - from) ≤ j → out ≡ padded n z (spliced at from a (take k l))
-  splice-end h = let m = spliced-length in fill-end n z (spliced at from a (take k l)) out j o (omega arith)
+  pub splice-end : n ≤ j → (n ≡ length (spliced at from a (take k l))) × (out ≡ padded 16 z (spliced at from a (take k l)))
+  splice-end h = let m = spliced-total in (sym m, fill-end 16 z (spliced at from a (take k l)) out j (s .places) (omega arith))
+
+-- the loop begins; c is the count, of which k are listed
+module _ {A : Type 0} (z : A) (at from : ℕ) (a : A) (l : List A) (c : ℕ) (p : Splices at from (length (take c l))) (long : length l ≡ 16) where
+  pub splices-listed : Splices at from (listed-count c)
+  splices-listed = subst (Splices at from) (length-within 16 c l long) p
+
+  pub splice-start : (k : ℕ) → k ≡ listed-count c → Splicing z at from a l k (at + 1 + (k - from)) 0 (replicate 16 z)
+  splice-start k e =
+      record {
+        few = rw e (within-few 16 c);
+        split = rw e splices-listed;
+        whole = refl;
+        bound = omega arith;
+        places = sym (padded-nil 16 z);
+      }
 
 -- ===== a loop that moves the flagged elements together: after the first i of xs, n are in `out` =====
 

@@ -1,21 +1,21 @@
 -- The invariant: the first j of the list as it is to be, and zeros after them.
 -- Assumes nothing.
-use mathlib.Core.Path.{_≡_, refl, sym, ap, subst, _∙_}
+use mathlib.Core.Path.{_≡_, sym, ap, _∙_}
 use mathlib.Core.Logic.{⊎-elim}
-use Prim.Native.Nat.{ℕ, _≤_, _-_, _+_}
+use Prim.Native.Nat.{ℕ, _-_, _+_}
 use native.Mathlib.Omega.{arith}
 use lib.ListN.{length, take}
 use Rattle.block_records.proofs.LoopLaws.{length-mapped}
 use Rattle.block_records.specs.EntryLayout.{zero-tops}
 use Rattle.block_records.specs.Lists.{padded}
 use Rattle.blocks_group.specs.GroupArrays.{Splices, listed-count, spliced}
-use Rattle.blocks_group.proofs.ArrayLaws.{length-within, padded-nil, splice-after, splice-before, splice-end, splice-here, spliced-length, take-within, within-few}
+use Rattle.blocks_group.proofs.ArrayLaws.{Splicing, splice-after, splice-before, splice-end, splice-here, splice-start, splices-listed, take-within, within-few}
 use borrow.Author.Needs.{needs}
 use Rattle.blocks_group.proofs.group.put_tops_at.Statement.{statement}
 use Rattle.blocks_group.proofs.group.put_tops_at.Tie as tie
 
 abbrev Inv-loop : tie.InvT-loop
-Inv-loop listed at from new tops out₀ count n j₀ out j = (j ≤ n) × (count ≤ 16) × Splices at from count × (n ≡ at + 1 + (count - from)) × (out ≡ padded 16 zero-tops (take j (spliced at from new (take count tops))))
+Inv-loop listed at from new tops out₀ count n j₀ out j = Splicing zero-tops at from new tops count n j out
 
 abbrev μ-loop : tie.MeasureT-loop
 μ-loop listed at from new tops out₀ count n j₀ out j = n - j
@@ -24,7 +24,7 @@ len : (c : tie.Start Inv-loop μ-loop) → length (c .args .t1) ≡ 16
 len c = search (needs, length-mapped)
 
 room : (c : tie.Start Inv-loop μ-loop) (k : ℕ) → k ≡ listed-count (c .args .listed) → Splices (c .args .at) (c .args .from) k
-room c k e = subst (λ (n : ℕ). Splices (c .args .at) (c .args .from) n) (length-within 16 (c .args .listed) (c .args .t1) (len c) ∙ sym e) (c .pre)
+room s k e = splice-start zero-tops (s .args .at) (s .args .from) (s .args .new) (s .args .t1) (s .args .listed) (s .pre) (len s) k e .split
 
 zero-tops-requires : tie.Need-zero-tops-requires Inv-loop μ-loop
 zero-tops-requires c κs = search needs
@@ -42,9 +42,7 @@ add-n-2 : tie.Need-add-n-2 Inv-loop μ-loop
 add-n-2 c = let p = room (c .before .before) (c .listed-count .result) (c .listed-count .ensures) in omega arith
 
 loop-holds : tie.Need-loop-holds Inv-loop μ-loop
-loop-holds c =
-    let p = room (c .before .before) (c .listed-count .result) (c .listed-count .ensures) in
-    (search needs, rw (c .listed-count .ensures) (within-few 16 (c .before .before .args .listed)), p, refl, rw (c .before .zero-tops .ensures) (sym (padded-nil 16 zero-tops)))
+loop-holds c = let s = c .before .before in rw (c .before .zero-tops .ensures) (splice-start zero-tops (s .args .at) (s .args .from) (s .args .new) (s .args .t1) (s .args .listed) (s .pre) (len s) _ (c .listed-count .ensures))
 
 mul-out : tie.Need-mul-out Inv-loop μ-loop
 mul-out c = search needs
@@ -89,39 +87,25 @@ loop-less : tie.Need-loop-less Inv-loop μ-loop
 loop-less c = search needs
 
 loop-again : tie.Need-loop-again Inv-loop μ-loop
-loop-again c =
+loop-again c = 
     let h = c .before .before .loop in
     let s = c .before .before .before .before .before in
-    let k = c .before .before .before .listed-count .result in
-    let x = s .args .t1 in
-    let l = len s in
-    let p = h .inv .2 in
-    let t = c .before .loop-test .taken in (
-      search needs,
-      h .inv .1,
-      p,
-      h .inv .3,
-      ⊎-elim {C = c .if1 .out ≡ padded 16 zero-tops (take (h .j + 1) (spliced (s .args .at) (s .args .from) (s .args .new) (take k x)))}
-          (λ w. w .2 ∙ splice-before 16 zero-tops _ _ _ x k (p .order) (p .within) (p .room) (omega arith) _ _ (h .inv .4) _ (w .0 .taken))
-          (⊎-elim {C = c .if1 .out ≡ padded 16 zero-tops (take (h .j + 1) (spliced (s .args .at) (s .args .from) (s .args .new) (take k x)))}
-          (λ w. w .2 ∙ splice-here 16 zero-tops _ _ _ x k (p .order) (p .within) (p .room) (omega arith) _ _ (h .inv .4) (w .1 .taken))
-          (λ w. w .3 ∙ splice-after 16 zero-tops _ _ _ x k (p .order) (p .within) (p .room) (omega arith) _ _ (h .inv .4) _ (omega arith) (omega arith)))
-          (c .if1 .came),
-    )
+    let t = c .before .loop-test .taken in
+    ⊎-elim
+    (λ w. rw (w .2) (splice-before zero-tops _ _ _ (s .args .t1) _ _ _ _ (h .inv) (len s) _ (w .0 .taken) t))
+    (⊎-elim
+    (λ w. rw (w .2) (splice-here zero-tops _ _ _ (s .args .t1) _ _ _ _ (h .inv) (len s) (w .1 .taken) t))
+    (λ w. rw (w .3) (splice-after zero-tops _ _ _ (s .args .t1) _ _ _ _ (h .inv) (len s) _ (w .0 .left) (w .1 .left) t)))
+    (c .if1 .came)
 
 returns : tie.Need-returns Inv-loop μ-loop
-returns c =
+returns c = 
     let h = c .before .loop in
     let s = c .before .before .before .before in
-    let k = c .before .before .listed-count .result in
     let x = s .args .t1 in
-    let l = len s in
-    let p = h .inv .2 in
-    let t = c .loop-test .left in
-    let same : take k x ≡ take (s .args .listed) x = ap (λ i. take i x) (c .before .before .listed-count .ensures) ∙ take-within 16 (s .args .listed) x l in
-    let e = splice-end 16 zero-tops (s .args .at) (s .args .from) (s .args .new) x k (p .order) (p .within) (p .room) (omega arith) (h .out) (h .j) (h .inv .4) (omega arith)
-    ∙ ap (λ r. padded 16 zero-tops (spliced (s .args .at) (s .args .from) (s .args .new) r)) same in
-    e
+    let e = splice-end zero-tops (s .args .at) (s .args .from) (s .args .new) x _ _ _ _ (h .inv) (len s) (c .loop-test .left) in
+    let same = ap (λ i. take i x) (c .before .before .listed-count .ensures) ∙ take-within 16 (s .args .listed) x (len s) in
+    e .1 ∙ ap (λ r. padded 16 zero-tops (spliced (s .args .at) (s .args .from) (s .args .new) r)) same
 
 pub put-tops-at-spec : {M : Type 1} → statement M
 put-tops-at-spec =
