@@ -1,56 +1,140 @@
--- What the code does to a group's arrays, for every input, sound or not: an entry put in its place, entries kept by a test. The top items beside
--- the master group move with their entries. On a packed group this is the rule of the model, packed (proofs/GroupArrayLaws).
+-- What the code does to a group's arrays, for every input, sound or not. It goes by what is listed; the result has zeros in the places that are left.
+-- On a packed group this is the rule of the model, packed (proofs/GroupArrayLaws).
 -- Assumes nothing.
-use mathlib.Core.Bool.{Bool}
-use mathlib.Core.List.{List, [], _∷_}
-use lib.Dec.{ltb}
-use lib.ListN.{length, take}
+use mathlib.Core.Bool.{Bool, _||_, not}
+use mathlib.Core.List.{List, [], _++_, _∷_}
+use Prim.Native.Nat.{_+_, _-_, _≤_, ℕ}
+use lib.Dec.{eqb, leb, ltb}
+use lib.ListN.{drop, getD, length, take}
+use Rattle.block_records.specs.declared.block_id.BlockIdShort.{BlockIdShort}
 use Rattle.block_records.specs.declared.entry.BlockCacheEntry.{BlockCacheEntry}
 use Rattle.block_records.specs.declared.entry.MasterBlock.{MasterBlock}
-use Rattle.blocks_group.specs.declared.Group.{Group}
-use Rattle.blocks_group.specs.declared.MasterGroup.{MasterGroup}
-use Rattle.block_records.specs.Lists.{filter, padded, pick, put}
-use Rattle.block_records.specs.Zeros.{zero-entry, zero-tops}
+use Rattle.block_records.specs.declared.top_block.TopBlocks.{TopBlocks}
+use Rattle.blocks_group.specs.declared.group.Boundary.the-variants.{At as boundary-at}
+use Rattle.blocks_group.specs.declared.group.EntryAt.{EntryAt}
+use Rattle.blocks_group.specs.declared.group.Group.{Group}
+use Rattle.blocks_group.specs.declared.group.MasterAt.{MasterAt}
+use Rattle.blocks_group.specs.declared.group.MasterGroup.{MasterGroup}
+use Rattle.blocks_group.specs.declared.group.Retained.{Retained}
+use Rattle.blocks_group.specs.declared.group.Retained.the-variants.{AllBut as retain-but, From as retain-from, UpToOrReceived as retain-up-to}
+use Rattle.blocks_group.specs.declared.search.Found.{Found}
+use Rattle.blocks_group.specs.declared.search.Found.the-variants.{At as found-at, Vacant as vacant-at}
+use Rattle.block_records.specs.Entries.{kind-received}
+use Rattle.block_records.specs.Lists.{each, filter, padded, pick, put}
+use Rattle.block_records.specs.Zeros.{zero-entry, zero-master, zero-tops}
+use Rattle.blocks_group.specs.Search.{place}
+
+-- ===== what is listed =====
+
+abbrev pub record-seqno : BlockCacheEntry → ℕ
+record-seqno b = b .«block_id» .seqno
 
 abbrev pub record-before : BlockCacheEntry → BlockCacheEntry → Bool
-record-before a b = ltb (a .«block_id» .seqno) (b .«block_id» .seqno)
+record-before a b = ltb (record-seqno a) (record-seqno b)
 
--- the entries below the count
+-- the number of places below a count
+abbrev pub listed-count : ℕ → ℕ
+listed-count n = pick (ltb n 16) n 16
+
+-- the entries below the count; a count past the 16 places lists them all
 abbrev pub listed-entries : Group → List BlockCacheEntry
 listed-entries g = take (g .count) (g .entries)
 
--- a group with these entries, and zeros after them
+abbrev pub listed-seqnos : Group → List ℕ
+listed-seqnos g = each record-seqno (listed-entries g)
+
+abbrev pub master-seqno : MasterBlock → ℕ
+master-seqno b = record-seqno (b .entry)
+
+abbrev pub master-before : MasterBlock → MasterBlock → Bool
+master-before a b = ltb (master-seqno a) (master-seqno b)
+
+-- each entry with the top items that stand in its place
+abbrev pub beside : List BlockCacheEntry → List TopBlocks → List MasterBlock
+beside [] ts = []
+beside (b ∷ bs) [] = []
+beside (b ∷ bs) (t ∷ ts) = record { entry = b; tops = t } ∷ beside bs ts
+
+abbrev pub listed-masters : MasterGroup → List MasterBlock
+listed-masters g = beside (listed-entries (g .group)) (g .tops)
+
+-- ===== a group with these entries, and zeros after them =====
+
 abbrev pub with-records : List BlockCacheEntry → Group → Group
 with-records bs g = record { entries = padded 16 zero-entry bs; count = length bs; mark = g .mark; boundary = g .boundary }
 
-abbrev pub put-record : BlockCacheEntry → Group → Group
-put-record b g = with-records (put record-before b (listed-entries g)) g
-
-abbrev pub retain-records : (BlockCacheEntry → Bool) → Group → Group
-retain-records q g = with-records (filter q (listed-entries g)) g
-
--- ===== with top items beside =====
-
-module _ {A B : Type 0} where
-  -- where `put lt a xs` puts a, b is put into ys
-  abbrev pub put-beside : (A → A → Bool) → A → List A → B → List B → List B
-  put-beside lt a [] b ys = b ∷ []
-  put-beside lt a (x ∷ xs) b [] = b ∷ []
-  put-beside lt a (x ∷ xs) b (y ∷ ys) = pick (lt a x) (b ∷ y ∷ ys) (pick (lt x a) (y ∷ put-beside lt a xs b ys) (b ∷ ys))
-
-  -- those of ys that stand beside an element of xs that passes
-  abbrev pub filter-beside : (A → Bool) → List A → List B → List B
-  filter-beside q [] ys = []
-  filter-beside q (x ∷ xs) [] = []
-  filter-beside q (x ∷ xs) (y ∷ ys) = pick (q x) (y ∷ filter-beside q xs ys) (filter-beside q xs ys)
-
-abbrev pub put-master : MasterBlock → MasterGroup → MasterGroup
-put-master b g =
+abbrev pub with-masters : List MasterBlock → MasterGroup → MasterGroup
+with-masters bs g =
     record {
-      group = put-record (b .entry) (g .group);
-      tops = padded 16 zero-tops (put-beside record-before (b .entry) (listed-entries (g .group)) (b .tops) (take (g .group .count) (g .tops)));
+      group = with-records (each (λ (b : MasterBlock). b .entry) bs) (g .group);
+      tops = padded 16 zero-tops (each (λ (b : MasterBlock). b .tops) bs);
     }
 
-abbrev pub retain-masters : (BlockCacheEntry → Bool) → MasterGroup → MasterGroup
-retain-masters q g =
-    record { group = retain-records q (g .group); tops = padded 16 zero-tops (filter-beside q (listed-entries (g .group)) (take (g .group .count) (g .tops))) }
+-- ===== the entry at a seqno, zeros where there is none =====
+
+abbrev pub at-place : {A : Type 0} → A → List A → Found → A
+at-place z xs (found-at k) = getD xs k z
+at-place z xs (vacant-at k) = z
+
+abbrev pub entry-at : ℕ → Group → EntryAt
+entry-at n g = record { found = place n (listed-seqnos g); entry = at-place zero-entry (listed-entries g) (place n (listed-seqnos g)) }
+
+abbrev pub master-at : ℕ → MasterGroup → MasterAt
+master-at n g =
+    record {
+      found = place n (listed-seqnos (g .group));
+      block = at-place zero-master (listed-masters g) (place n (listed-seqnos (g .group)));
+    }
+
+-- ===== an entry put in its place; one of the same seqno is replaced =====
+
+-- the first `at` elements, a, and those of place `from` on
+abbrev pub spliced : {A : Type 0} → ℕ → ℕ → A → List A → List A
+spliced at from a xs = take at xs ++ a ∷ drop from xs
+
+-- what that asks of n elements: they are 16 at most afterwards
+pub record Splices (at from n : ℕ) : Type 0 where
+  pub order : at ≤ from
+  pub within : from ≤ n
+  pub room : at + 1 + (n - from) ≤ 16
+
+-- nothing changes where they would be more than 16
+abbrev pub put-entry : BlockCacheEntry → Group → Group
+put-entry b g = pick (leb (length (put record-before b (listed-entries g))) 16) (with-records (put record-before b (listed-entries g)) g) g
+
+abbrev pub put-master : MasterBlock → MasterGroup → MasterGroup
+put-master b g = pick (leb (length (put master-before b (listed-masters g))) 16) (with-masters (put master-before b (listed-masters g)) g) g
+
+-- ===== entries retained by a rule =====
+
+-- from a seqno on; up to a seqno or Received; all but that of a seqno
+abbrev pub retains : Retained → BlockCacheEntry → Bool
+retains (retain-from n) b = leb n (record-seqno b)
+retains (retain-up-to n) b = leb (record-seqno b) n || kind-received (b .«data»)
+retains (retain-but n) b = not (eqb (record-seqno b) n)
+
+-- the elements beside which a flag is set
+abbrev pub flagged : {A : Type 0} → List Bool → List A → List A
+flagged [] xs = []
+flagged (k ∷ ks) [] = []
+flagged (k ∷ ks) (x ∷ xs) = pick k (x ∷ flagged ks xs) (flagged ks xs)
+
+abbrev pub retain-entries : Retained → Group → Group
+retain-entries r g = with-records (filter (retains r) (listed-entries g)) g
+
+abbrev pub retain-masters : Retained → MasterGroup → MasterGroup
+retain-masters r g = with-masters (filter (λ (b : MasterBlock). retains r (b .entry)) (listed-masters g)) g
+
+abbrev pub remove-entry : ℕ → Group → Group
+remove-entry n g = retain-entries (retain-but n) g
+
+abbrev pub remove-master : ℕ → MasterGroup → MasterGroup
+remove-master n g = retain-masters (retain-but n) g
+
+-- ===== the boundary =====
+
+abbrev pub set-group-boundary : BlockIdShort → Group → Group
+set-group-boundary k g = record { entries = g .entries; count = g .count; mark = g .mark; boundary = boundary-at k }
+
+abbrev pub set-master-boundary : BlockIdShort → MasterGroup → MasterGroup
+set-master-boundary k g = record { group = set-group-boundary k (g .group); tops = g .tops }

@@ -1,0 +1,60 @@
+-- The entry at the place that the search finds.
+-- Assumes nothing.
+use mathlib.Core.Path.{_≡_, sym, ap, _∙_}
+use native.Mathlib.Omega.{arith}
+use Prim.Native.Nat.{_<_}
+use lib.ListN.{length}
+use Rattle.block_records.proofs.LoopLaws.{length-mapped}
+use Rattle.blocks_group.specs.declared.search.Found.the-variants.{At as found-at, Vacant as vacant-at}
+use Rattle.blocks_group.specs.Search.{place}
+use Rattle.blocks_group.specs.GroupArrays.{listed-seqnos}
+use Rattle.blocks_group.proofs.GroupStepLaws.{entry-found, entry-vacant, found-place}
+use borrow.Author.Needs.{needs}
+use Rattle.blocks_group.proofs.group.entry_at.Statement.{statement}
+use Rattle.blocks_group.proofs.group.entry_at.Tie as tie
+
+len : (c : tie.Start) → length (c .args .t1 .entries) ≡ 16
+len c = search (needs, length-mapped)
+
+at : (c : tie.After-known-told) → place (c .before .before .before .before .args .seqno) (listed-seqnos (c .before .before .before .before .args .t1)) ≡ found-at (c .before .found .given .0 .0)
+at c = sym (c .before .before .before .find .ensures) ∙ c .before .found .given .1
+
+small : (c : tie.After-known-told) → c .before .found .given .0 .0 < 16
+small c = let s = c .before .before .before .before in found-place (s .args .t1) (len s) (s .args .seqno) (c .before .found .given .0 .0) (at c)
+
+find-requires : tie.Need-find-requires
+find-requires c κs = search needs
+
+enum-known-found : tie.Need-enum-known-found
+enum-known-found c = search needs
+
+enum-told : tie.Need-enum-told
+enum-told c = search needs
+
+zero-entry-requires : tie.Need-zero-entry-requires
+zero-entry-requires c κs = search needs
+
+returns : tie.Need-returns
+returns c = let s = c .before .before .before .before in entry-vacant (s .args .t1) (len s) (s .args .seqno) _ _ _ (c .before .before .before .find .ensures) (c .before .enum-told .given .1) (c .zero-entry .ensures)
+
+mul-entry : tie.Need-mul-entry
+mul-entry c = omega (arith, small c)
+
+element-copy-out-entry : tie.Need-element-copy-out-entry
+element-copy-out-entry c = small c
+
+returns-2 : tie.Need-returns-2
+returns-2 c = let s = c .before .before .before .before .before in entry-found (s .args .t1) (len s) (s .args .seqno) (c .before .before .found .given .0 .0) (at (c .before)) _
+
+pub entry-at-spec : {M : Type 1} → statement M
+entry-at-spec =
+    tie.close
+    (tie.spec
+    find-requires
+    enum-known-found
+    enum-told
+    zero-entry-requires
+    returns
+    mul-entry
+    element-copy-out-entry
+    returns-2)

@@ -1,0 +1,40 @@
+-- The flagged blocks are those that stay.
+-- Assumes nothing.
+use mathlib.Core.Path.{_≡_, sym, ap, _∙_}
+use lib.ListN.{length}
+use Rattle.block_records.proofs.LoopLaws.{length-mapped}
+use Rattle.block_records.specs.Lists.{padded}
+use Rattle.block_records.specs.Zeros.{zero-tops}
+use Rattle.blocks_group.specs.GroupArrays.{with-records, flagged}
+use Rattle.blocks_group.proofs.GroupStepLaws.{retain-entries-by-flags, retain-masters-by-flags}
+use borrow.Author.Needs.{needs}
+use Rattle.blocks_group.proofs.group.retain_masters.Statement.{statement}
+use Rattle.blocks_group.proofs.group.retain_masters.Tie as tie
+
+len : (c : tie.Start) → length (c .args .masters .group .entries) ≡ 16
+len c = search (needs, length-mapped)
+
+len-tops : (c : tie.Start) → length (c .args .masters .tops) ≡ 16
+len-tops c = search (needs, length-mapped)
+
+keep-flags-requires : tie.Need-keep-flags-requires
+keep-flags-requires c κs = search needs
+
+compact-entries-requires : tie.Need-compact-entries-requires
+compact-entries-requires c κs = search needs
+
+compact-tops-requires : tie.Need-compact-tops-requires
+compact-tops-requires c κs = search needs
+
+returns : tie.Need-returns
+returns c =
+    let s = c .before .before .before .before .before in
+    let m = s .args .masters in
+    let k = c .before .before .before .keep-flags .ensures in
+    retain-masters-by-flags m (len s) (len-tops s) (s .args .rule) _ _
+    (c .before .before .compact-entries .ensures ∙ ap (λ k. with-records (flagged k (m .group .entries)) (m .group)) k ∙ retain-entries-by-flags (s .args .rule) (m .group))
+    (c .compact-tops .ensures ∙ ap (λ k. padded 16 zero-tops (flagged k (m .tops))) k)
+
+pub retain-masters-spec : {M : Type 1} → statement M
+retain-masters-spec =
+    tie.close (tie.spec keep-flags-requires compact-entries-requires compact-tops-requires returns)

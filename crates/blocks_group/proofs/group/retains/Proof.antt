@@ -1,0 +1,56 @@
+-- Each branch is a case of the rule.
+-- Assumes nothing.
+use mathlib.Core.Path.{_≡_, refl}
+use mathlib.Core.Bool.{Bool, _||_, not}
+use Prim.Native.Nat.{ℕ}
+use lib.Dec.{eqb, leb}
+use Rattle.block_records.specs.declared.entry.BlockCacheEntry.{BlockCacheEntry}
+use Rattle.block_records.specs.Entries.{kind-received}
+use Rattle.blocks_group.specs.declared.group.Retained.{Retained}
+use Rattle.blocks_group.specs.declared.group.Retained.the-variants.{From as retain-from, UpToOrReceived as retain-up-to, AllBut as retain-but}
+use Rattle.blocks_group.specs.GroupArrays.{record-seqno, retains}
+use borrow.Author.Needs.{needs}
+use Rattle.blocks_group.proofs.group.retains.Statement.{statement}
+use Rattle.blocks_group.proofs.group.retains.Tie as tie
+
+retained-from : (r : Retained) (b : BlockCacheEntry) (n : ℕ) → r ≡ retain-from n → leb n (record-seqno b) ≡ retains r b
+retained-from r b n e = rw e
+
+retained-up-to : (r : Retained) (b : BlockCacheEntry) (n : ℕ) (t : Bool) → r ≡ retain-up-to n → t ≡ kind-received (b .«data») → leb (record-seqno b) n || t ≡ retains r b
+retained-up-to r b n t e k = rw (e, k)
+
+retained-but : (r : Retained) (b : BlockCacheEntry) (n : ℕ) → r ≡ retain-but n → not (eqb (record-seqno b) n) ≡ retains r b
+retained-but r b n e = rw e
+
+is-received-requires : tie.Need-is-received-requires
+is-received-requires c κs = search needs
+
+enum-known-rule : tie.Need-enum-known-rule
+enum-known-rule c = search needs
+
+enum-known-rule-2 : tie.Need-enum-known-rule-2
+enum-known-rule-2 c = search needs
+
+enum-known-rule-3 : tie.Need-enum-known-rule-3
+enum-known-rule-3 c = search needs
+
+returns : tie.Need-returns
+returns c = search retained-from
+
+returns-2 : tie.Need-returns-2
+returns-2 c = search retained-up-to
+
+returns-3 : tie.Need-returns-3
+returns-3 c = search retained-but
+
+pub retains-spec : {M : Type 1} → statement M
+retains-spec =
+    tie.close
+    (tie.spec
+    is-received-requires
+    enum-known-rule
+    enum-known-rule-2
+    enum-known-rule-3
+    returns
+    returns-2
+    returns-3)

@@ -1,0 +1,14 @@
+-- The boundary of the group; the top items stay.
+-- Assumes nothing.
+use borrow.Author.Needs.{needs}
+use Rattle.blocks_group.proofs.group.set_master_boundary.Statement.{statement}
+use Rattle.blocks_group.proofs.group.set_master_boundary.Tie as tie
+
+set-group-boundary-requires : tie.Need-set-group-boundary-requires
+set-group-boundary-requires c κs = search needs
+
+returns : tie.Need-returns
+returns c = cc
+
+pub set-master-boundary-spec : {M : Type 1} → statement M
+set-master-boundary-spec = tie.close (tie.spec set-group-boundary-requires returns)

@@ -1,0 +1,387 @@
+// Document 01, Group: up to 16 entries by rising seqno. The master group has its blocks' top items beside it, in the same places.
+ghost use mathlib.Core.Path.{_≡_};
+ghost use mathlib.Core.Bool.{false};
+ghost use Prim.Native.Nat.{_+_, _-_, _≤_};
+ghost use lib.ListN.{length, take};
+ghost use Rattle.block_records.specs.Zeros.{zero-tops};
+ghost use Rattle.block_records.specs.Lists.{each, padded};
+ghost use Rattle.blocks_group.specs.Search.{place};
+ghost use Rattle.blocks_group.specs.GroupLayout.{zero-group, zero-master-group};
+ghost use Rattle.blocks_group.specs.GroupArrays.{listed-count, listed-entries, listed-seqnos, listed-masters, with-records, with-masters, Splices, spliced, flagged};
+ghost use Rattle.blocks_group.specs.GroupArrays.{retains, entry-at, master-at, put-entry, put-master, retain-entries, retain-masters, remove-entry, remove-master};
+ghost use Rattle.blocks_group.specs.GroupArrays.{set-group-boundary, set-master-boundary};
+use crate::mark::Mark;
+use crate::search::Found;
+use crate::search::search;
+use block_records::block_id::BlockIdShort;
+use block_records::entry::BlockCacheEntry;
+use block_records::entry::MasterBlock;
+use block_records::entry::is_received;
+use block_records::entry::zero_entry;
+use block_records::entry::zero_master;
+use block_records::top_block::TopBlocks;
+use block_records::top_block::zero_tops;
+
+pub enum Boundary {
+    Absent,
+    At(BlockIdShort),
+}
+
+pub struct Group {
+    pub entries: [BlockCacheEntry; 16],
+    pub count: usize,
+    pub mark: Mark,
+    pub boundary: Boundary,
+}
+
+pub struct MasterGroup {
+    pub group: Group,
+    pub tops: [TopBlocks; 16],
+}
+
+// What stands at a seqno; zeros where nothing does.
+pub struct EntryAt {
+    pub found: Found,
+    pub entry: BlockCacheEntry,
+}
+
+pub struct MasterAt {
+    pub found: Found,
+    pub block: MasterBlock,
+}
+
+// Which entries stay: from a seqno on; up to a seqno or Received; all but that of a seqno.
+pub enum Retained {
+    From(u32),
+    UpToOrReceived(u32),
+    AllBut(u32),
+}
+
+pub fn zero_group() -> Group
+    ensures { λ r. ⌜ r ≡ zero-group ⌝ }
+{
+    let entry = zero_entry();
+    Group {
+        entries: [entry; 16],
+        count: 0,
+        mark: Mark::Absent,
+        boundary: Boundary::Absent,
+    }
+}
+
+pub fn zero_master_group() -> MasterGroup
+    ensures { λ r. ⌜ r ≡ zero-master-group ⌝ }
+{
+    let group = zero_group();
+    let tops = zero_tops();
+    MasterGroup {
+        group,
+        tops: [tops; 16],
+    }
+}
+
+// The number of places below a count.
+fn listed_count(count: usize) -> usize
+    ensures { λ r. ⌜ r ≡ listed-count count ⌝ }
+{
+    if count < 16 { count } else { 16 }
+}
+
+// Where an entry of this seqno stands, or the place where it would go in.
+pub fn find(group: Group, seqno: u32) -> Found
+    ensures { λ r. ⌜ r ≡ place seqno (listed-seqnos group) ⌝ }
+{
+    let count = listed_count(group.count);
+    let mut seqnos = [0u32; 16];
+    let mut i: usize = 0;
+    while i < count {
+        seqnos[i] = group.entries[i].block_id.seqno;
+        i += 1;
+    }
+    search(&seqnos[..count], seqno)
+}
+
+// The entry at a seqno.
+pub fn entry_at(group: Group, seqno: u32) -> EntryAt
+    ensures { λ r. ⌜ r ≡ entry-at seqno group ⌝ }
+{
+    let found = find(group, seqno);
+    let Found::At(at) = found else {
+        let zero = zero_entry();
+        return EntryAt {
+            found: found,
+            entry: zero,
+        };
+    };
+    let entry = group.entries[at];
+    EntryAt {
+        found: found,
+        entry: entry,
+    }
+}
+
+// The master block at a seqno.
+pub fn master_at(masters: MasterGroup, seqno: u32) -> MasterAt
+    ensures { λ r. ⌜ r ≡ master-at seqno masters ⌝ }
+{
+    let group = masters.group;
+    let found = find(group, seqno);
+    let Found::At(at) = found else {
+        let zero = zero_master();
+        return MasterAt {
+            found: found,
+            block: zero,
+        };
+    };
+    let entry = group.entries[at];
+    let tops = masters.tops[at];
+    let block = MasterBlock {
+        entry: entry,
+        tops: tops,
+    };
+    MasterAt {
+        found: found,
+        block: block,
+    }
+}
+
+// The first `at` entries, the given one, and those of place `from` on.
+fn put_entry_at(group: Group, at: usize, from: usize, entry: BlockCacheEntry) -> Group
+    requires { ⌜ Splices at from (length (listed-entries group)) ⌝ }
+    ensures { λ r. ⌜ r ≡ with-records (spliced at from entry (listed-entries group)) group ⌝ }
+{
+    let zero = zero_entry();
+    let mut out = [zero; 16];
+    let count = listed_count(group.count);
+    let n = at + 1 + (count - from);
+    let mut j: usize = 0;
+    while j < n {
+        if j < at {
+            out[j] = group.entries[j];
+        } else if j == at {
+            out[j] = entry;
+        } else {
+            out[j] = group.entries[from + (j - at - 1)];
+        }
+        j += 1;
+    }
+    let mark = group.mark;
+    let boundary = group.boundary;
+    Group {
+        entries: out,
+        count: n,
+        mark: mark,
+        boundary: boundary,
+    }
+}
+
+// The same of the top items beside.
+fn put_tops_at(
+    tops: [TopBlocks; 16],
+    listed: usize,
+    at: usize,
+    from: usize,
+    new: TopBlocks,
+) -> [TopBlocks; 16]
+    requires { ⌜ Splices at from (length (take listed tops)) ⌝ }
+    ensures { λ r. ⌜ r ≡ padded 16 zero-tops (spliced at from new (take listed tops)) ⌝ }
+{
+    let zero = zero_tops();
+    let mut out = [zero; 16];
+    let count = listed_count(listed);
+    let n = at + 1 + (count - from);
+    let mut j: usize = 0;
+    while j < n {
+        if j < at {
+            out[j] = tops[j];
+        } else if j == at {
+            out[j] = new;
+        } else {
+            out[j] = tops[from + (j - at - 1)];
+        }
+        j += 1;
+    }
+    out
+}
+
+fn put_master_at(masters: MasterGroup, at: usize, from: usize, block: MasterBlock) -> MasterGroup
+    requires { ⌜ Splices at from (length (listed-entries (masters .group))) ⌝ }
+    ensures { λ r. ⌜ r ≡ with-masters (spliced at from block (listed-masters masters)) masters ⌝ }
+{
+    let group = masters.group;
+    let entry = block.entry;
+    let put = put_entry_at(group, at, from, entry);
+    let tops = masters.tops;
+    let new = block.tops;
+    let put_tops = put_tops_at(tops, group.count, at, from, new);
+    MasterGroup {
+        group: put,
+        tops: put_tops,
+    }
+}
+
+// The entry in its place; one of the same seqno is replaced. A full group without that seqno stays as it is.
+pub fn put_entry(group: Group, entry: BlockCacheEntry) -> Group
+    ensures { λ r. ⌜ r ≡ put-entry entry group ⌝ }
+{
+    let found = find(group, entry.block_id.seqno);
+    match found {
+        Found::At(at) => put_entry_at(group, at, at + 1, entry),
+        Found::Vacant(at) => {
+            if group.count < 16 {
+                return put_entry_at(group, at, at, entry);
+            }
+            group
+        }
+    }
+}
+
+// The same of a master block, with its top items.
+pub fn put_master(masters: MasterGroup, block: MasterBlock) -> MasterGroup
+    ensures { λ r. ⌜ r ≡ put-master block masters ⌝ }
+{
+    let group = masters.group;
+    let found = find(group, block.entry.block_id.seqno);
+    match found {
+        Found::At(at) => put_master_at(masters, at, at + 1, block),
+        Found::Vacant(at) => {
+            if group.count < 16 {
+                return put_master_at(masters, at, at, block);
+            }
+            masters
+        }
+    }
+}
+
+// Whether an entry stays.
+fn retains(rule: Retained, entry: BlockCacheEntry) -> bool
+    ensures { λ r. ⌜ r ≡ retains rule entry ⌝ }
+{
+    let seqno = entry.block_id.seqno;
+    let received = is_received(entry);
+    match rule {
+        Retained::From(first) => first <= seqno,
+        Retained::UpToOrReceived(last) => (seqno <= last) | received,
+        Retained::AllBut(gone) => seqno != gone,
+    }
+}
+
+// A flag for each listed entry that stays.
+fn keep_flags(group: Group, rule: Retained) -> [bool; 16]
+    ensures { λ r. ⌜ r ≡ padded 16 false (each (retains rule) (listed-entries group)) ⌝ }
+{
+    let count = listed_count(group.count);
+    let mut keep = [false; 16];
+    let mut i: usize = 0;
+    while i < count {
+        let entry = group.entries[i];
+        keep[i] = retains(rule, entry);
+        i += 1;
+    }
+    keep
+}
+
+// The flagged entries.
+fn compact_entries(group: Group, keep: [bool; 16]) -> Group
+    ensures { λ r. ⌜ r ≡ with-records (flagged keep (group .entries)) group ⌝ }
+{
+    let zero = zero_entry();
+    let mut out = [zero; 16];
+    let mut n: usize = 0;
+    let mut i: usize = 0;
+    while i < 16 {
+        if keep[i] {
+            out[n] = group.entries[i];
+            n += 1;
+        }
+        i += 1;
+    }
+    let mark = group.mark;
+    let boundary = group.boundary;
+    Group {
+        entries: out,
+        count: n,
+        mark: mark,
+        boundary: boundary,
+    }
+}
+
+// The top items beside the flagged entries.
+fn compact_tops(tops: [TopBlocks; 16], keep: [bool; 16]) -> [TopBlocks; 16]
+    ensures { λ r. ⌜ r ≡ padded 16 zero-tops (flagged keep tops) ⌝ }
+{
+    let zero = zero_tops();
+    let mut out = [zero; 16];
+    let mut n: usize = 0;
+    let mut i: usize = 0;
+    while i < 16 {
+        if keep[i] {
+            out[n] = tops[i];
+            n += 1;
+        }
+        i += 1;
+    }
+    out
+}
+
+// The entries that stay by a rule, moved together.
+pub fn retain_entries(group: Group, rule: Retained) -> Group
+    ensures { λ r. ⌜ r ≡ retain-entries rule group ⌝ }
+{
+    let keep = keep_flags(group, rule);
+    compact_entries(group, keep)
+}
+
+// The same of the master group, the top items with their entries.
+pub fn retain_masters(masters: MasterGroup, rule: Retained) -> MasterGroup
+    ensures { λ r. ⌜ r ≡ retain-masters rule masters ⌝ }
+{
+    let group = masters.group;
+    let keep = keep_flags(group, rule);
+    let kept = compact_entries(group, keep);
+    let tops = masters.tops;
+    let kept_tops = compact_tops(tops, keep);
+    MasterGroup {
+        group: kept,
+        tops: kept_tops,
+    }
+}
+
+pub fn remove_entry(group: Group, seqno: u32) -> Group
+    ensures { λ r. ⌜ r ≡ remove-entry seqno group ⌝ }
+{
+    let rule = Retained::AllBut(seqno);
+    retain_entries(group, rule)
+}
+
+pub fn remove_master(masters: MasterGroup, seqno: u32) -> MasterGroup
+    ensures { λ r. ⌜ r ≡ remove-master seqno masters ⌝ }
+{
+    let rule = Retained::AllBut(seqno);
+    retain_masters(masters, rule)
+}
+
+pub fn set_group_boundary(group: Group, key: BlockIdShort) -> Group
+    ensures { λ r. ⌜ r ≡ set-group-boundary key group ⌝ }
+{
+    let entries = group.entries;
+    let mark = group.mark;
+    let boundary = Boundary::At(key);
+    Group {
+        entries: entries,
+        count: group.count,
+        mark: mark,
+        boundary: boundary,
+    }
+}
+
+pub fn set_master_boundary(masters: MasterGroup, key: BlockIdShort) -> MasterGroup
+    ensures { λ r. ⌜ r ≡ set-master-boundary key masters ⌝ }
+{
+    let group = set_group_boundary(masters.group, key);
+    let tops = masters.tops;
+    MasterGroup {
+        group: group,
+        tops: tops,
+    }
+}
