@@ -3,6 +3,7 @@
 -- Assumes nothing.
 use mathlib.Core.Bool.{Bool, _||_, not}
 use mathlib.Core.List.{List, [], _++_, _∷_}
+use mathlib.Core.Option.{Option, none, some}
 use Prim.Native.Nat.{_+_, _-_, _≤_, ℕ}
 use lib.Dec.{eqb, leb, ltb}
 use lib.ListN.{drop, getD, length, take}
@@ -85,6 +86,17 @@ master-at n g =
       found = place n (listed-seqnos (g .group));
       block = at-place zero-master (listed-masters g) (place n (listed-seqnos (g .group)));
     }
+
+-- what an answer says: that which stands at the seqno, or nothing
+abbrev pub when-found : {A : Type 0} → Found → A → Option A
+when-found (found-at k) a = some a
+when-found (vacant-at k) a = none
+
+abbrev pub answered-entry : EntryAt → Option BlockCacheEntry
+answered-entry a = when-found (a .found) (a .entry)
+
+abbrev pub answered-master : MasterAt → Option MasterBlock
+answered-master a = when-found (a .found) (a .block)
 
 -- ===== an entry put in its place; one of the same seqno is replaced =====
 

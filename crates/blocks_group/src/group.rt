@@ -245,7 +245,7 @@ pub fn put_master(masters: MasterGroup, block: MasterBlock) -> MasterGroup
     match found {
         Found::At(at) => put_master_at(masters, at, at + 1, block),
         Found::Vacant(at) => {
-            if group.count < 16 {
+            if masters.group.count < 16 {
                 return put_master_at(masters, at, at, block);
             }
             masters
@@ -286,12 +286,12 @@ fn compact_entries(group: Group, keep: [bool; 16]) -> Group
     ensures { λ r. ⌜ r ≡ with-records (flagged keep (group .entries)) group ⌝ }
 {
     let zero = zero_entry();
-    let mut out = [zero; 16];
+    let mut kept = [zero; 16];
     let mut n: usize = 0;
     let mut i: usize = 0;
     while i < 16 {
         if keep[i] {
-            out[n] = group.entries[i];
+            kept[n] = group.entries[i];
             n += 1;
         }
         i += 1;
@@ -299,7 +299,7 @@ fn compact_entries(group: Group, keep: [bool; 16]) -> Group
     let mark = group.mark;
     let boundary = group.boundary;
     Group {
-        entries: out,
+        entries: kept,
         count: n,
         mark: mark,
         boundary: boundary,

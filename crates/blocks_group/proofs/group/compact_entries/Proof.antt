@@ -2,9 +2,9 @@
 -- Assumes nothing.
 use mathlib.Core.Path.{_≡_}
 use mathlib.Core.Logic.{⊎-elim}
-use Prim.Native.Nat.{_≤_, _-_}
+use Prim.Native.Nat.{_-_, _≤_}
 use native.Mathlib.Omega.{arith}
-use lib.ListN.{length, replicate}
+use lib.ListN.{length}
 use Rattle.block_records.proofs.LoopLaws.{length-mapped}
 use Rattle.block_records.specs.Zeros.{zero-entry}
 use Rattle.blocks_group.proofs.ArrayLaws.{Compacted, compact-end, compact-no, compact-start, compact-yes}
@@ -13,10 +13,10 @@ use Rattle.blocks_group.proofs.group.compact_entries.Statement.{stateme
 use Rattle.blocks_group.proofs.group.compact_entries.Tie as tie
 
 abbrev Inv-loop : tie.InvT-loop
-Inv-loop group keep out₀ n₀ i₀ out n i = (i ≤ 16) × Compacted 16 zero-entry keep (group .entries) i n out
+Inv-loop group keep kept₀ n₀ i₀ kept n i = (i ≤ 16) × Compacted 16 zero-entry keep (group .entries) i n kept
 
 abbrev μ-loop : tie.MeasureT-loop
-μ-loop group keep out₀ n₀ i₀ out n i = 16 - i
+μ-loop group keep kept₀ n₀ i₀ kept n i = 16 - i
 
 len : (c : tie.Start Inv-loop μ-loop) → length (c .args .t1 .entries) ≡ 16
 len c = search (needs, length-mapped)
@@ -33,17 +33,17 @@ loop-holds c = (search needs, rw (c .zero-entry .ensures) (compact-start 16 zero
 array-read-if1 : tie.Need-array-read-if1 Inv-loop μ-loop
 array-read-if1 c = search needs
 
-mul-out : tie.Need-mul-out Inv-loop μ-loop
-mul-out c = search needs
+mul-kept : tie.Need-mul-kept Inv-loop μ-loop
+mul-kept c = search needs
 
-element-copy-out-out : tie.Need-element-copy-out-out Inv-loop μ-loop
-element-copy-out-out c = search needs
+element-copy-out-kept : tie.Need-element-copy-out-kept Inv-loop μ-loop
+element-copy-out-kept c = search needs
 
-mul-out-2 : tie.Need-mul-out-2 Inv-loop μ-loop
-mul-out-2 c = search needs
+mul-kept-2 : tie.Need-mul-kept-2 Inv-loop μ-loop
+mul-kept-2 c = search needs
 
-array-set-from-out : tie.Need-array-set-from-out Inv-loop μ-loop
-array-set-from-out c = search needs
+array-set-from-kept : tie.Need-array-set-from-kept Inv-loop μ-loop
+array-set-from-kept c = search needs
 
 add-n : tie.Need-add-n Inv-loop μ-loop
 add-n c = search needs
@@ -62,8 +62,8 @@ loop-again c =
     let k = flags s in
     let t = c .before .loop-test .taken in
     ⊎-elim
-    (λ w. (search needs, rw (w .2, w .3) (compact-yes 16 zero-entry (s .args .t2) (s .args .t1 .entries) (h .i) (h .n) (h .out) (h .inv .1) _ _ (w .0 .taken) (omega arith) (omega arith) t)))
-    (λ w. (search needs, rw (w .1, w .2) (compact-no 16 zero-entry (s .args .t2) (s .args .t1 .entries) (h .i) (h .n) (h .out) (h .inv .1) _ (w .0 .left) (omega arith) (omega arith))))
+    (λ w. (search needs, rw (w .2, w .3) (compact-yes 16 zero-entry (s .args .t2) (s .args .t1 .entries) (h .i) (h .n) (h .kept) (h .inv .1) _ _ (w .0 .taken) (omega arith) (omega arith) t)))
+    (λ w. (search needs, rw (w .1, w .2) (compact-no 16 zero-entry (s .args .t2) (s .args .t1 .entries) (h .i) (h .n) (h .kept) (h .inv .1) _ (w .0 .left) (omega arith) (omega arith))))
     (c .if1 .came)
 
 returns : tie.Need-returns Inv-loop μ-loop
@@ -73,7 +73,7 @@ returns c =
     let l = len s in
     let k = flags s in
     let t = c .loop-test .left in
-    let e = compact-end 16 zero-entry (s .args .t2) (s .args .t1 .entries) (h .i) (h .n) (h .out) (h .inv .1) (omega arith) (omega arith) in
+    let e = compact-end 16 zero-entry (s .args .t2) (s .args .t1 .entries) (h .i) (h .n) (h .kept) (h .inv .1) (omega arith) (omega arith) in
     λ j. record { entries = e .1 j; count = e .0 j; mark = s .args .t1 .mark; boundary = s .args .t1 .boundary }
 
 pub compact-entries-spec : {M : Type 1} → statement M
@@ -85,10 +85,10 @@ compact-entries-spec =
     zero-entry-requires
     loop-holds
     array-read-if1
-    mul-out
-    element-copy-out-out
-    mul-out-2
-    array-set-from-out
+    mul-kept
+    element-copy-out-kept
+    mul-kept-2
+    array-set-from-kept
     add-n
     add-i
     loop-less

@@ -2,9 +2,9 @@
 -- Assumes nothing.
 use mathlib.Core.Path.{_≡_}
 use mathlib.Core.Logic.{⊎-elim}
-use Prim.Native.Nat.{_≤_, _-_}
+use Prim.Native.Nat.{_-_, _≤_}
 use native.Mathlib.Omega.{arith}
-use lib.ListN.{length, replicate}
+use lib.ListN.{length}
 use Rattle.block_records.proofs.LoopLaws.{length-mapped}
 use Rattle.block_records.specs.Zeros.{zero-tops}
 use Rattle.blocks_group.proofs.ArrayLaws.{Compacted, compact-end, compact-no, compact-start, compact-yes}

@@ -1,10 +1,10 @@
 -- The invariant: the flags of the entries passed, and false after them.
 -- Assumes nothing.
-use mathlib.Core.Path.{_≡_, sym, ap, _∙_}
-use mathlib.Core.Bool.{Bool, false}
-use Prim.Native.Nat.{_≤_, _-_}
+use mathlib.Core.Path.{_∙_, _≡_, ap, sym}
+use mathlib.Core.Bool.{false}
+use Prim.Native.Nat.{_-_, _≤_}
 use native.Mathlib.Omega.{arith}
-use lib.ListN.{length, take, length-set}
+use lib.ListN.{length, length-set, take}
 use Rattle.block_records.proofs.LoopLaws.{length-mapped}
 use Rattle.block_records.specs.Lists.{each, padded}
 use Rattle.blocks_group.specs.GroupArrays.{retains}

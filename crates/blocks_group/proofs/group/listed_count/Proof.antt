@@ -1,6 +1,6 @@
 -- Each branch is a case of the definition.
 -- Assumes nothing.
-use borrow.Author.Tests.{lt-ltb, le-ltb}
+use borrow.Author.Tests.{le-ltb, lt-ltb}
 use Rattle.blocks_group.proofs.group.listed_count.Statement.{statement}
 use Rattle.blocks_group.proofs.group.listed_count.Tie as tie
 

@@ -1,11 +1,11 @@
 -- The entry at the place that the search finds, and the top items beside it.
 -- Assumes nothing.
-use mathlib.Core.Path.{_≡_, sym, ap, _∙_}
+use mathlib.Core.Path.{_∙_, _≡_, sym}
 use native.Mathlib.Omega.{arith}
 use Prim.Native.Nat.{_<_}
 use lib.ListN.{length}
 use Rattle.block_records.proofs.LoopLaws.{length-mapped}
-use Rattle.blocks_group.specs.declared.search.Found.the-variants.{At as found-at, Vacant as vacant-at}
+use Rattle.blocks_group.specs.declared.search.Found.the-variants.{At as found-at}
 use Rattle.blocks_group.specs.Search.{place}
 use Rattle.blocks_group.specs.GroupArrays.{listed-seqnos}
 use Rattle.blocks_group.proofs.GroupStepLaws.{found-place, master-found, master-vacant}

@@ -1,14 +1,12 @@
 -- Each branch is a case of the definition.
 -- Assumes nothing.
-use mathlib.Core.Path.{_≡_, sym, ap, _∙_}
+use mathlib.Core.Path.{_∙_, _≡_, sym}
 use native.Mathlib.Omega.{arith}
 use lib.ListN.{length}
 use Rattle.block_records.proofs.LoopLaws.{length-mapped}
-use Rattle.blocks_group.specs.declared.search.Found.the-variants.{At as found-at, Vacant as vacant-at}
-use Rattle.blocks_group.specs.Search.{place}
-use Rattle.blocks_group.specs.GroupArrays.{Splices, listed-entries, listed-seqnos, record-seqno}
+use Rattle.blocks_group.specs.GroupArrays.{listed-entries, record-seqno}
 use Rattle.blocks_group.proofs.PutLaws.{found-below, found-splices, vacant-splices}
-use Rattle.blocks_group.proofs.GroupStepLaws.{put-master-found, put-master-full, put-master-vacant, listed-below, listed-few}
+use Rattle.blocks_group.proofs.GroupStepLaws.{listed-below, listed-few, put-master-found, put-master-full, put-master-vacant}
 use borrow.Author.Needs.{needs}
 use Rattle.blocks_group.proofs.group.put_master.Statement.{statement}
 use Rattle.blocks_group.proofs.group.put_master.Tie as tie

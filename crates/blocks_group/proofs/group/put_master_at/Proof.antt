@@ -1,7 +1,6 @@
 -- The two arrays are changed alike.
 -- Assumes nothing.
-use mathlib.Core.Path.{_≡_, sym, ap, _∙_}
-use mathlib.Core.Path.{subst}
+use mathlib.Core.Path.{_≡_, subst, sym}
 use Prim.Native.Nat.{ℕ}
 use lib.ListN.{length}
 use Rattle.block_records.proofs.LoopLaws.{length-mapped}

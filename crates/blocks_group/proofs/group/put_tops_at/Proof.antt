@@ -1,15 +1,15 @@
 -- The invariant: the first j of the list as it is to be, and zeros after them.
 -- Assumes nothing.
-use mathlib.Core.Path.{_≡_, sym, ap, _∙_}
+use mathlib.Core.Path.{_∙_, _≡_, ap}
 use mathlib.Core.Logic.{⊎-elim}
-use Prim.Native.Nat.{ℕ, _-_, _+_}
+use Prim.Native.Nat.{_-_, ℕ}
 use native.Mathlib.Omega.{arith}
 use lib.ListN.{length, take}
 use Rattle.block_records.proofs.LoopLaws.{length-mapped}
 use Rattle.block_records.specs.Zeros.{zero-tops}
 use Rattle.block_records.specs.Lists.{padded}
 use Rattle.blocks_group.specs.GroupArrays.{Splices, listed-count, spliced}
-use Rattle.blocks_group.proofs.ArrayLaws.{Splicing, splice-after, splice-before, splice-end, splice-here, splice-start, splices-listed, take-within, within-few}
+use Rattle.blocks_group.proofs.ArrayLaws.{Splicing, splice-after, splice-before, splice-end, splice-here, splice-start, take-within}
 use borrow.Author.Needs.{needs}
 use Rattle.blocks_group.proofs.group.put_tops_at.Statement.{statement}
 use Rattle.blocks_group.proofs.group.put_tops_at.Tie as tie

@@ -1,13 +1,13 @@
 -- Each branch is a case of the rule.
 -- Assumes nothing.
-use mathlib.Core.Path.{_≡_, refl}
+use mathlib.Core.Path.{_≡_}
 use mathlib.Core.Bool.{Bool, _||_, not}
 use Prim.Native.Nat.{ℕ}
 use lib.Dec.{eqb, leb}
 use Rattle.block_records.specs.declared.entry.BlockCacheEntry.{BlockCacheEntry}
 use Rattle.block_records.specs.Entries.{kind-received}
 use Rattle.blocks_group.specs.declared.group.Retained.{Retained}
-use Rattle.blocks_group.specs.declared.group.Retained.the-variants.{From as retain-from, UpToOrReceived as retain-up-to, AllBut as retain-but}
+use Rattle.blocks_group.specs.declared.group.Retained.the-variants.{AllBut as retain-but, From as retain-from, UpToOrReceived as retain-up-to}
 use Rattle.blocks_group.specs.GroupArrays.{record-seqno, retains}
 use borrow.Author.Needs.{needs}
 use Rattle.blocks_group.proofs.group.retains.Statement.{statement}
@@ -35,13 +35,13 @@ enum-known-rule-3 : tie.Need-enum-known-rule-3
 enum-known-rule-3 c = search needs
 
 returns : tie.Need-returns
-returns c = search retained-from
+returns c = retained-from _ _ _ (c .before .rule .given .1)
 
 returns-2 : tie.Need-returns-2
-returns-2 c = search retained-up-to
+returns-2 c = retained-up-to _ _ _ _ (c .before .rule2 .given .1) (c .before .before .before .is-received .ensures)
 
 returns-3 : tie.Need-returns-3
-returns-3 c = search retained-but
+returns-3 c = retained-but _ _ _ (c .before .rule3 .given .1)
 
 pub retains-spec : {M : Type 1} → statement M
 retains-spec =

@@ -1,11 +1,11 @@
 -- The invariant: the answer is what the list from `i` on gives.
 -- Assumes nothing.
-use mathlib.Core.Path.{_≡_, refl, sym, _∙_}
-use Prim.Native.Nat.{_≤_, _-_}
+use mathlib.Core.Path.{_∙_, _≡_, refl, sym}
+use Prim.Native.Nat.{_-_, _≤_}
 use borrow.Author.Needs.{needs}
-use lib.ListN.{length, drop}
+use lib.ListN.{drop, length}
 use Rattle.blocks_group.specs.Search.{place, place-from}
-use Rattle.blocks_group.proofs.SearchLaws.{place-next, place-found, place-vacant, place-end}
+use Rattle.blocks_group.proofs.SearchLaws.{place-end, place-found, place-next, place-vacant}
 use Rattle.blocks_group.proofs.search.search.Statement.{statement}
 use Rattle.blocks_group.proofs.search.search.Tie as tie
 
