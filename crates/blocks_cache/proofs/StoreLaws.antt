@@ -213,7 +213,7 @@ take-length (suc n) (x ∷ xs) = let ih = take-length n xs in omega arith
 counts-listed : (i : BlockId) (previous : PrevIds) (tops : TopBlocks) → counts-fit i (previous .count) (tops .count) ≡ true →
     counts-fit i (length (listed-prev-ids previous)) (length (listed-tops tops)) ≡ true
 counts-listed i previous tops h =
-    let a : leb (previous .count) 2 ≡ true = search (and-left, and-right) in
+    let a : leb (previous .count) 2 ≡ true = search and-left in
     let b : leb (tops .count) 8 ≡ true = search (and-left, and-right) in
     let c : is-masterchain (id-shard i) || eqb (tops .count) 0 ≡ true = search (and-left, and-right) in
     and-intro (le-leb (length (listed-prev-ids previous)) 2 (omega (arith, take-length (previous .count) (previous .ids), leb-true (previous .count) 2 a)))
@@ -233,7 +233,7 @@ entry-drop : (b : Bool) (i : BlockId) (ref : ℕ) (ps : List BlockId) (ts : List
     seqnos-fit i ref (pick b [] ps) ts && (counts-fit i (length (pick b [] ps)) (length ts) && links-fit i (pick b [] ps) ts) ≡ true
 entry-drop false i ref ps ts x y z = and-intro x (and-intro y z)
 entry-drop true i ref ps ts x y z =
-    let a : id-fits i ≡ true = search (and-left, and-right) in
+    let a : id-fits i ≡ true = search and-left in
     let b : seqno-fits ref ≡ true = search (and-left, and-right) in
     let c : all top-fits ts ≡ true = search (and-left, and-right) in
     let d : leb (length ts) 8 && (is-masterchain (id-shard i) || eqb (length ts) 0) ≡ true = search (and-left, and-right) in

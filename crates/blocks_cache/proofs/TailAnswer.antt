@@ -96,7 +96,7 @@ module _ (m : Model) (ok : sound m ≡ true) (M : Entry) where
       let fit : entry-fits e ≡ true = cached-fits m ok (key i) e c in
       let ps : all (previous-fits (e .id)) (e .previous) ≡ true = search (and-left, and-right) in
       let q : previous-fits (e .id) p ≡ true = all-member (previous-fits (e .id)) (e .previous) ps (r .2) in
-      let l : ltb (p .seqno) (e .id .seqno) ≡ true = search (and-left, and-right) in
+      let l : ltb (p .seqno) (e .id .seqno) ≡ true = search and-left in
       omega (arith, ltb-true (p .seqno) (e .id .seqno) l, c .at-its-seqno)
 
   abbrev ids₁ : List BlockId

@@ -34,7 +34,7 @@ pub record GroupParts (p : ShardIdent → Bool) (g : GroupModel) : Type 0 where
   pub bound : boundary-in p (g .boundary) ≡ true
 
 pub group-parts : (p : ShardIdent → Bool) (g : GroupModel) → group-sound p g ≡ true → GroupParts p g
-group-parts p g h = record { count = search (and-left, and-right); order = search (and-left, and-right); fit = search (and-left, and-right); bound = search (and-left, and-right) }
+group-parts p g h = record { count = search and-left; order = search (and-left, and-right); fit = search (and-left, and-right); bound = search (and-left, and-right) }
 
 pub group-whole : (p : ShardIdent → Bool) (g : GroupModel) → GroupParts p g → group-sound p g ≡ true
 group-whole p g h = and-intro (h .count) (and-intro (h .order) (and-intro (h .fit) (h .bound)))
