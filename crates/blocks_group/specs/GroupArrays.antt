@@ -107,11 +107,11 @@ answered-master a = when-found (a .found) (a .block)
 abbrev pub spliced : {A : Type 0} → ℕ → ℕ → A → List A → List A
 spliced at from a xs = take at xs ++ a ∷ drop from xs
 
--- what that asks of n elements: they are 16 at most afterwards
-pub record Splices (at from n : ℕ) : Type 0 where
+-- what that asks of n elements in an array of so many places
+pub record Splices (places at from n : ℕ) : Type 0 where
   pub order : at ≤ from
   pub within : from ≤ n
-  pub room : at + 1 + (n - from) ≤ 16
+  pub room : at + 1 + (n - from) ≤ places
 
 -- nothing changes where they would be more than 16
 abbrev pub put-entry : BlockCacheEntry → Group → Group
