@@ -14,9 +14,9 @@ use lib.Seq.{getD-append-add, getD-at, getD-drop, getD-take, length-take-le, set
 use Rattle.block_records.proofs.ListLaws.{length-each}
 use Rattle.block_records.proofs.Tests.{and-left, and-right, on}
 use Rattle.block_records.specs.Lists.{all, each, filter, padded, pick, put}
-use Rattle.blocks_group.specs.GroupArrays.{Splices, flagged, listed-count, spliced}
+use Rattle.blocks_group.specs.GroupArrays.{Splices, flagged, spliced}
 
--- a count, or the number of places where it is past them
+-- a count, or the number of places where it is past them, is within the places
 pub within-few : (size n : ℕ) → pick (ltb n size) n size ≤ size
 within-few size n = on (ltb n size) (λ t. rw t (let m = ltb-true n size t in omega arith)) (λ t. rw t (le-refl size))
 
@@ -45,17 +45,20 @@ module _ {A : Type 0} where
       on (ltb n size) (λ t. rw t)
       (λ t. rw t (let m = ltb-false n size t in take-all size xs (omega arith) ∙ sym (take-all n xs (omega arith))))
 
+  -- the first n elements are n, or all
   pub length-within : (size n : ℕ) (xs : List A) → length xs ≡ size → length (take n xs) ≡ pick (ltb n size) n size
   length-within size n xs l =
       on (ltb n size)
       (λ t. rw t (let m = ltb-true n size t in length-take-le n xs (omega arith)))
       (λ t. rw t (let m = ltb-false n size t in ap length (take-all n xs (omega arith)) ∙ l))
 
+  -- the first n elements are no more than n ..
   pub take-length-count : (n : ℕ) (xs : List A) → length (take n xs) ≤ n
   take-length-count zero xs = le-refl 0
   take-length-count (suc n) [] = omega arith
   take-length-count (suc n) (x ∷ xs) = let ih = take-length-count n xs in omega arith
 
+  -- .. and no more than all
   pub length-take-few : (n : ℕ) (xs : List A) → length (take n xs) ≤ length xs
   length-take-few zero xs = omega arith
   length-take-few (suc n) [] = omega arith
@@ -63,14 +66,17 @@ module _ {A : Type 0} where
 
   -- ===== an array of n places: the list, then z in the places that are left =====
 
+  -- nothing listed: z in every place
   pub padded-nil : (n : ℕ) (z : A) → padded n z [] ≡ replicate n z
   unfolding padded
   padded-nil n z = rw sub-zero
 
+  -- it has n places
   pub length-padded : (n : ℕ) (z : A) (xs : List A) → length xs ≤ n → length (padded n z xs) ≡ n
   unfolding padded
   length-padded n z xs h = simp (length-append, length-replicate) (omega arith)
 
+  -- its first places are the list
   pub take-padded-at : (n : ℕ) (z : A) (xs : List A) (k : ℕ) → length xs ≡ k → take k (padded n z xs) ≡ xs
   unfolding padded
   take-padded-at n z xs k e = take-at xs (replicate (n - length xs) z) k e
@@ -90,40 +96,48 @@ module _ {A : Type 0} where
 
   -- ===== a loop that fills an array from the front with the list t, at place i =====
 
+  -- one turn
   pub fill-next : (n : ℕ) (z : A) (t out : List A) (i : ℕ) (v d : A) → out ≡ padded n z (take i t) → v ≡ getD t i d → i < length t → length t ≤ n →
       set out i v ≡ padded n z (take (i + 1) t)
   fill-next n z t out i v d o e h l =
       rw (o, e, take-next t i d h) (set-padded n z (take i t) i (getD t i d) (length-take-le i t (omega arith)) (omega arith))
 
+  -- the loop ends
   pub fill-end : (n : ℕ) (z : A) (t out : List A) (i : ℕ) → out ≡ padded n z (take i t) → length t ≤ i → out ≡ padded n z t
   fill-end n z t out i o h = o ∙ ap (padded n z) (take-all i t h)
 
 module _ {A B : Type 0} where
+  -- what stands at a place of the images
   pub getD-each : (f : A → B) (xs : List A) (i : ℕ) (d : A) → getD (each f xs) i (f d) ≡ f (getD xs i d)
   getD-each f [] i d = refl
   getD-each f (x ∷ xs) zero d = refl
   getD-each f (x ∷ xs) (suc i) d = getD-each f xs i d
 
+  -- as many images as elements taken
   pub length-each-take : (f : A → B) (k : ℕ) (xs : List A) → k ≤ length xs → length (each f (take k xs)) ≡ k
   length-each-take f k xs l = length-each f (take k xs) ∙ length-take-le k xs l
 
   -- ===== a loop that fills an array with f of the first k elements of xs, at place i =====
 
   module _ (f : A → B) (n : ℕ) (z : B) (k : ℕ) (xs : List A) (out : List B) (i : ℕ) (l : k ≤ length xs) (b : k ≤ n) (o : out ≡ padded n z (take i (each f (take k xs)))) where
+    -- one turn
     pub each-next : (v : B) (d : A) → v ≡ f (getD xs i d) → i < k → set out i v ≡ padded n z (take (i + 1) (each f (take k xs)))
     each-next v d e h =
         let m = length-each-take f k xs l in
         fill-next n z (each f (take k xs)) out i v (f d) o (e ∙ sym (getD-each f (take k xs) i d ∙ ap f (getD-take k xs i d h))) (omega arith) (omega arith)
 
+    -- the loop ends
     pub each-end : k ≤ i → out ≡ padded n z (each f (take k xs))
     each-end h = let m = length-each-take f k xs l in fill-end n z (each f (take k xs)) out i o (omega arith)
 
 -- ===== one element for those from place `at` up to `from` =====
 
 module _ {A : Type 0} (at from : ℕ) (a : A) (xs : List A) (p : at ≤ from) (q : from ≤ length xs) where
+  -- how many they are then
   pub length-spliced : length (spliced at from a xs) ≡ at + 1 + (length xs - from)
   length-spliced = simp (length-append, length-drop, length-take-le at xs (omega arith)) (omega arith)
 
+  -- what stands before the place, at it, and after it
   spliced-before : (j : ℕ) (d : A) → j < at → getD (spliced at from a xs) j d ≡ getD xs j d
   spliced-before j d h =
       let l = length-take-le at xs (omega arith) in
@@ -138,15 +152,15 @@ module _ {A : Type 0} (at from : ℕ) (a : A) (xs : List A) (p : at ≤ from) (q
       let e : j ≡ length (take at xs) + suc (j - at - 1) = omega arith in
       ap (λ (i : ℕ). getD (spliced at from a xs) i d) e ∙ getD-append-add (take at xs) (a ∷ drop from xs) (suc (j - at - 1)) d ∙ getD-drop from xs (j - at - 1) d
 
--- a loop that fills an array of 16 places with the first k of l so changed, n elements in all, at place j: where it stands
-pub record Splicing {A : Type 0} (z : A) (at from : ℕ) (a : A) (l : List A) (k n j : ℕ) (out : List A) : Type 0 where
-  pub few : k ≤ 16
-  pub split : Splices at from k
+-- where a loop stands that fills an array with the first k of l so changed, n elements in all, at place j
+pub record Splicing {A : Type 0} (size : ℕ) (z : A) (at from : ℕ) (a : A) (l : List A) (k n j : ℕ) (out : List A) : Type 0 where
+  pub few : k ≤ size
+  pub split : Splices size at from k
   pub whole : n ≡ at + 1 + (k - from)
   pub bound : j ≤ n
-  pub places : out ≡ padded 16 z (take j (spliced at from a (take k l)))
+  pub places : out ≡ padded size z (take j (spliced at from a (take k l)))
 
-module _ {A : Type 0} (z : A) (at from : ℕ) (a : A) (l : List A) (k n j : ℕ) (out : List A) (s : Splicing z at from a l k n j out) (long : length l ≡ 16) where
+module _ {A : Type 0} (size : ℕ) (z : A) (at from : ℕ) (a : A) (l : List A) (k n j : ℕ) (out : List A) (s : Splicing size z at from a l k n j out) (long : length l ≡ size) where
   listed : length (take k l) ≡ k
   listed = length-take-le k l (omega (arith, s .few))
 
@@ -156,7 +170,7 @@ module _ {A : Type 0} (z : A) (at from : ℕ) (a : A) (l : List A) (k n j : ℕ)
   spliced-total : length (spliced at from a (take k l)) ≡ n
   spliced-total = length-spliced at from a (take k l) (s .split .order) within ∙ ap (λ (i : ℕ). at + 1 + (i - from)) listed ∙ sym (s .whole)
 
-  turn : (v d : A) → v ≡ getD (spliced at from a (take k l)) j d → j < n → Splicing z at from a l k n (j + 1) (set out j v)
+  turn : (v d : A) → v ≡ getD (spliced at from a (take k l)) j d → j < n → Splicing size z at from a l k n (j + 1) (set out j v)
   turn v d e h =
       let m = spliced-total in
       let r = s .split .room in
@@ -166,45 +180,48 @@ module _ {A : Type 0} (z : A) (at from : ℕ) (a : A) (l : List A) (k n j : ℕ)
         split = s .split;
         whole = w;
         bound = omega arith;
-        places = fill-next 16 z (spliced at from a (take k l)) out j v d (s .places) e (omega arith) (omega arith);
+        places = fill-next size z (spliced at from a (take k l)) out j v d (s .places) e (omega arith) (omega arith);
       }
 
-  pub splice-before : (d : A) → j < at → j < n → Splicing z at from a l k n (j + 1) (set out j (getD l j d))
+  -- one turn before the place, at it, and after it
+  pub splice-before : (d : A) → j < at → j < n → Splicing size z at from a l k n (j + 1) (set out j (getD l j d))
   splice-before d h b =
       let p = s .split in
       turn (getD l j d) d (sym (spliced-before at from a (take k l) (p .order) within j d h ∙ getD-take k l j d (omega arith))) b
 
-  pub splice-here : j ≡ at → j < n → Splicing z at from a l k n (j + 1) (set out j a)
+  pub splice-here : j ≡ at → j < n → Splicing size z at from a l k n (j + 1) (set out j a)
   splice-here e b =
       turn a a (sym (ap (λ (i : ℕ). getD (spliced at from a (take k l)) i a) e ∙ spliced-here at from a (take k l) (s .split .order) within a)) b
 
-  pub splice-after : (d : A) → at ≤ j → (j ≡ at → ⊥) → j < n → Splicing z at from a l k n (j + 1) (set out j (getD l (from + (j - at - 1)) d))
+  pub splice-after : (d : A) → at ≤ j → (j ≡ at → ⊥) → j < n → Splicing size z at from a l k n (j + 1) (set out j (getD l (from + (j - at - 1)) d))
   splice-after d h e b =
       let w = s .whole in
       turn (getD l (from + (j - at - 1)) d) d
       (sym (spliced-after at from a (take k l) (s .split .order) within j d (omega arith) ∙ getD-take k l (from + (j - at - 1)) d (omega arith))) b
 
-  pub splice-end : n ≤ j → (n ≡ length (spliced at from a (take k l))) × (out ≡ padded 16 z (spliced at from a (take k l)))
-  splice-end h = let m = spliced-total in (sym m, fill-end 16 z (spliced at from a (take k l)) out j (s .places) (omega arith))
+  -- the loop ends
+  pub splice-end : n ≤ j → (n ≡ length (spliced at from a (take k l))) × (out ≡ padded size z (spliced at from a (take k l)))
+  splice-end h = let m = spliced-total in (sym m, fill-end size z (spliced at from a (take k l)) out j (s .places) (omega arith))
 
 -- the loop begins; c is the count, of which k are listed
-module _ {A : Type 0} (z : A) (at from : ℕ) (a : A) (l : List A) (c : ℕ) (p : Splices at from (length (take c l))) (long : length l ≡ 16) where
-  pub splices-listed : Splices at from (listed-count c)
-  splices-listed = subst (Splices at from) (length-within 16 c l long) p
+module _ {A : Type 0} (size : ℕ) (z : A) (at from : ℕ) (a : A) (l : List A) (c : ℕ) (p : Splices size at from (length (take c l))) (long : length l ≡ size) where
+  pub splices-listed : Splices size at from (pick (ltb c size) c size)
+  splices-listed = subst (Splices size at from) (length-within size c l long) p
 
-  pub splice-start : (k : ℕ) → k ≡ listed-count c → Splicing z at from a l k (at + 1 + (k - from)) 0 (replicate 16 z)
+  pub splice-start : (k : ℕ) → k ≡ pick (ltb c size) c size → Splicing size z at from a l k (at + 1 + (k - from)) 0 (replicate size z)
   splice-start k e =
       record {
-        few = rw e (within-few 16 c);
+        few = rw e (within-few size c);
         split = rw e splices-listed;
         whole = refl;
         bound = omega arith;
-        places = sym (padded-nil 16 z);
+        places = sym (padded-nil size z);
       }
 
 -- ===== a loop that moves the flagged elements together: after the first i of xs, n are in `out` =====
 
 module _ {A : Type 0} where
+  -- one more flag that is set
   flagged-yes : (ks : List Bool) (xs : List A) (i : ℕ) (k : Bool) (d : A) → getD ks i k ≡ true → i < length ks → i < length xs →
       flagged (take (suc i) ks) (take (suc i) xs) ≡ flagged (take i ks) (take i xs) ++ (getD xs i d ∷ [])
   flagged-yes [] xs i k d e h l = absurd (omega arith)
@@ -214,6 +231,7 @@ module _ {A : Type 0} where
       let ih = flagged-yes ks xs i k d e (omega arith) (omega arith) in
       on y (λ t. rw (t, ih)) (λ t. rw (t, ih))
 
+  -- one more flag that is not
   flagged-no : (ks : List Bool) (xs : List A) (i : ℕ) (k : Bool) → getD ks i k ≡ false → i < length ks → i < length xs →
       flagged (take (suc i) ks) (take (suc i) xs) ≡ flagged (take i ks) (take i xs)
   flagged-no [] xs i k e h l = absurd (omega arith)
@@ -229,10 +247,12 @@ module _ {A : Type 0} where
     pub count : n ≡ length (flagged (take i ks) (take i xs))
     pub places : out ≡ padded size z (flagged (take i ks) (take i xs))
 
-  pub compact-start : (size : ℕ) (z : A) (ks : List Bool) (xs : List A) → Compacted size z ks xs 0 0 (replicate size z)
-  compact-start size z ks xs = record { few = le-refl 0; count = refl; places = sym (padded-nil size z) }
+  -- it begins with z in every place
+  pub compact-start : (size : ℕ) (z y : A) (ks : List Bool) (xs : List A) → y ≡ z → Compacted size z ks xs 0 0 (replicate size y)
+  compact-start size z y ks xs e = record { few = le-refl 0; count = refl; places = rw e (sym (padded-nil size z)) }
 
   module _ (size : ℕ) (z : A) (ks : List Bool) (xs : List A) (i n : ℕ) (out : List A) (c : Compacted size z ks xs i n out) where
+    -- one turn, at an element that is flagged
     pub compact-yes : (k : Bool) (d : A) → getD ks i k ≡ true → i < length ks → i < length xs → i < size → Compacted size z ks xs (i + 1) (n + 1) (set out n (getD xs i d))
     compact-yes k d e h l b =
         let q : flagged (take (i + 1) ks) (take (i + 1) xs) ≡ flagged (take i ks) (take i xs) ++ (getD xs i d ∷ []) = rw add-one (flagged-yes ks xs i k d e h l) in
@@ -243,12 +263,14 @@ module _ {A : Type 0} where
           places = rw (c .places, q) (set-padded size z (flagged (take i ks) (take i xs)) n (getD xs i d) (sym (c .count)) (omega arith));
         }
 
+    -- one turn, at one that is not
     pub compact-no : (k : Bool) → getD ks i k ≡ false → i < length ks → i < length xs → Compacted size z ks xs (i + 1) n out
     compact-no k e h l =
         let q : flagged (take (i + 1) ks) (take (i + 1) xs) ≡ flagged (take i ks) (take i xs) = rw add-one (flagged-no ks xs i k e h l) in
         let f = c .few in
         record { few = omega arith; count = rw q (c .count); places = rw q (c .places) }
 
+    -- the loop ends
     pub compact-end : length ks ≤ i → length xs ≤ i → (n ≡ length (flagged ks xs)) × (out ≡ padded size z (flagged ks xs))
     compact-end h l = (rw (take-all i ks h, take-all i xs l) at (c .count), rw (take-all i ks h, take-all i xs l) at (c .places))
 
@@ -270,6 +292,7 @@ module _ {A : Type 0} where
   unfolding padded
   flagged-padded n ks xs = flagged-append ks (n - length ks) xs
 
+  -- flags by a test of the first c: those that pass
   pub flagged-filter : (p : A → Bool) (c : ℕ) (xs : List A) → flagged (each p (take c xs)) xs ≡ filter p (take c xs)
   flagged-filter p zero xs = refl
   flagged-filter p (suc c) [] = refl
@@ -292,6 +315,7 @@ module _ {A B : Type 0} (f : A → B) where
   each-drop (suc n) [] = refl
   each-drop (suc n) (x ∷ xs) = each-drop n xs
 
+  -- the images of a list with one element put in
   pub each-spliced : (at from : ℕ) (a : A) (xs : List A) → each f (spliced at from a xs) ≡ spliced at from (f a) (each f xs)
   each-spliced at from a xs = each-append (take at xs) (a ∷ drop from xs) ∙ rw (each-take at xs, each-drop from xs)
 
@@ -312,6 +336,7 @@ module _ {A B : Type 0} (f : A → B) where
       (λ t. rw (same x, t) (ap (λ (r : List B). f x ∷ r) (each-filter p q same xs)))
       (λ t. rw (same x, t) (each-filter p q same xs))
 
+-- images of images
 pub each-each : {A B C : Type 0} (f : B → C) (g : A → B) (xs : List A) → each f (each g xs) ≡ each (λ (x : A). f (g x)) xs
 each-each f g [] = refl
 each-each {C = C} f g (x ∷ xs) = ap (λ (r : List C). f (g x) ∷ r) (each-each f g xs)

@@ -61,13 +61,13 @@ module _ (g : Group) (long : length (g .entries) ≡ 16) where
   -- an entry put in its place
   module _ (b : BlockCacheEntry) (k : ℕ) where
     pub put-entry-found : place (record-seqno b) (listed-seqnos g) ≡ found-at k → with-records (spliced k (k + 1) b (listed-entries g)) g ≡ put-entry b g
-    put-entry-found e = rw (found-fits record-seqno b (listed-entries g) k e listed-few, put-found record-seqno b (listed-entries g) k e)
+    put-entry-found e = rw (found-fits 16 record-seqno b (listed-entries g) k e listed-few, put-found 16 record-seqno b (listed-entries g) k e)
 
     pub put-entry-vacant : place (record-seqno b) (listed-seqnos g) ≡ vacant-at k → g .count < 16 → with-records (spliced k k b (listed-entries g)) g ≡ put-entry b g
-    put-entry-vacant e h = rw (vacant-fits record-seqno b (listed-entries g) k e (listed-below h), put-vacant record-seqno b (listed-entries g) k e)
+    put-entry-vacant e h = rw (vacant-fits 16 record-seqno b (listed-entries g) k e (listed-below h), put-vacant 16 record-seqno b (listed-entries g) k e)
 
     pub put-entry-full : place (record-seqno b) (listed-seqnos g) ≡ vacant-at k → 16 ≤ g .count → g ≡ put-entry b g
-    put-entry-full e h = rw (vacant-full record-seqno b (listed-entries g) k e (listed-full h))
+    put-entry-full e h = rw (vacant-full 16 record-seqno b (listed-entries g) k e (listed-full h))
 
 -- entries retained
 pub retain-entries-by-flags : (r : Retained) (g : Group) →
@@ -157,17 +157,17 @@ module _ (g : MasterGroup) (long : length (g .group .entries) ≡ 16) (long-tops
     pub put-master-found : place (master-seqno b) (listed-seqnos (g .group)) ≡ found-at k → with-masters (spliced k (k + 1) b (listed-masters g)) g ≡ put-master b g
     put-master-found e =
         let m : length (listed-masters g) ≤ 16 = omega (arith, masters-length, listed-few (g .group) long) in
-        rw (found-fits master-seqno b (listed-masters g) k (at-masters (found-at k) e) m, put-found master-seqno b (listed-masters g) k (at-masters (found-at k) e))
+        rw (found-fits 16 master-seqno b (listed-masters g) k (at-masters (found-at k) e) m, put-found 16 master-seqno b (listed-masters g) k (at-masters (found-at k) e))
 
     pub put-master-vacant : place (master-seqno b) (listed-seqnos (g .group)) ≡ vacant-at k → g .group .count < 16 → with-masters (spliced k k b (listed-masters g)) g ≡ put-master b g
     put-master-vacant e h =
         let m : length (listed-masters g) < 16 = omega (arith, masters-length, listed-below (g .group) long h) in
-        rw (vacant-fits master-seqno b (listed-masters g) k (at-masters (vacant-at k) e) m, put-vacant master-seqno b (listed-masters g) k (at-masters (vacant-at k) e))
+        rw (vacant-fits 16 master-seqno b (listed-masters g) k (at-masters (vacant-at k) e) m, put-vacant 16 master-seqno b (listed-masters g) k (at-masters (vacant-at k) e))
 
     pub put-master-full : place (master-seqno b) (listed-seqnos (g .group)) ≡ vacant-at k → 16 ≤ g .group .count → g ≡ put-master b g
     put-master-full e h =
         let m : 16 ≤ length (listed-masters g) = omega (arith, masters-length, listed-full (g .group) long h) in
-        rw (vacant-full master-seqno b (listed-masters g) k (at-masters (vacant-at k) e) m)
+        rw (vacant-full 16 master-seqno b (listed-masters g) k (at-masters (vacant-at k) e) m)
 
   -- blocks retained
   pub retain-masters-by-flags : (r : Retained) (h : Group) (ts : List TopBlocks) → h ≡ retain-entries r (g .group) →

@@ -1,4 +1,4 @@
--- Put by a number: the element goes in where the search finds its place, and fits unless 16 are listed and none has its number.
+-- Put by a number: the element goes in where the search finds its place, and fits unless the places are full and none has its number.
 -- Assumes nothing.
 use mathlib.Core.Bool.{false, true}
 use mathlib.Core.List.{List, [], _∷_}
@@ -43,7 +43,7 @@ place-found-below n xs k e = rw e at (place-within n xs)
 pub place-vacant-within : (n : ℕ) (xs : List ℕ) (k : ℕ) → place n xs ≡ vacant-at k → k ≤ length xs
 place-vacant-within n xs k e = rw e at (place-within n xs)
 
-module _ {A : Type 0} (f : A → ℕ) (a : A) where
+module _ {A : Type 0} (size : ℕ) (f : A → ℕ) (a : A) where
   abbrev put-at : Found → List A → List A
   put-at (found-at k) xs = spliced k (suc k) a xs
   put-at (vacant-at k) xs = spliced k k a xs
@@ -75,13 +75,13 @@ module _ {A : Type 0} (f : A → ℕ) (a : A) where
     pub put-found : put (λ (x y : A). ltb (f x) (f y)) a xs ≡ spliced k (k + 1) a xs
     put-found = put-by-place xs ∙ rw (e, add-one)
 
-    pub found-splices : length xs ≤ 16 → Splices k (k + 1) (length xs)
+    pub found-splices : length xs ≤ size → Splices size k (k + 1) (length xs)
     found-splices h = let l = found-below in record { order = omega arith; within = omega arith; room = omega arith }
 
-    pub found-fits : length xs ≤ 16 → leb (length (put (λ (x y : A). ltb (f x) (f y)) a xs)) 16 ≡ true
+    pub found-fits : length xs ≤ size → leb (length (put (λ (x y : A). ltb (f x) (f y)) a xs)) size ≡ true
     found-fits h =
         let l = found-below in
-        rw put-found (le-leb (length (spliced k (k + 1) a xs)) 16 (omega (arith, length-spliced k (k + 1) a xs (omega arith) (omega arith))))
+        rw put-found (le-leb (length (spliced k (k + 1) a xs)) size (omega (arith, length-spliced k (k + 1) a xs (omega arith) (omega arith))))
 
   -- ===== its place, k, is vacant =====
 
@@ -95,11 +95,11 @@ module _ {A : Type 0} (f : A → ℕ) (a : A) where
     vacant-length : length (spliced k k a xs) ≡ length xs + 1
     vacant-length = let l = vacant-within in omega (arith, length-spliced k k a xs (le-refl k) l)
 
-    pub vacant-splices : length xs < 16 → Splices k k (length xs)
+    pub vacant-splices : length xs < size → Splices size k k (length xs)
     vacant-splices h = let l = vacant-within in record { order = omega arith; within = omega arith; room = omega arith }
 
-    pub vacant-fits : length xs < 16 → leb (length (put (λ (x y : A). ltb (f x) (f y)) a xs)) 16 ≡ true
-    vacant-fits h = rw put-vacant (le-leb (length (spliced k k a xs)) 16 (omega (arith, vacant-length)))
+    pub vacant-fits : length xs < size → leb (length (put (λ (x y : A). ltb (f x) (f y)) a xs)) size ≡ true
+    vacant-fits h = rw put-vacant (le-leb (length (spliced k k a xs)) size (omega (arith, vacant-length)))
 
-    pub vacant-full : 16 ≤ length xs → leb (length (put (λ (x y : A). ltb (f x) (f y)) a xs)) 16 ≡ false
-    vacant-full h = rw put-vacant (lt-leb (length (spliced k k a xs)) 16 (omega (arith, vacant-length)))
+    pub vacant-full : size ≤ length xs → leb (length (put (λ (x y : A). ltb (f x) (f y)) a xs)) size ≡ false
+    vacant-full h = rw put-vacant (lt-leb (length (spliced k k a xs)) size (omega (arith, vacant-length)))

@@ -27,23 +27,22 @@ use Rattle.blocks_group.specs.Search.{place}
 
 -- ===== what is listed =====
 
+-- an entry's seqno, by which entries are ordered
 abbrev pub record-seqno : BlockCacheEntry → ℕ
 record-seqno b = b .«block_id» .seqno
 
 abbrev pub record-before : BlockCacheEntry → BlockCacheEntry → Bool
 record-before a b = ltb (record-seqno a) (record-seqno b)
 
--- the number of places below a count
-abbrev pub listed-count : ℕ → ℕ
-listed-count n = pick (ltb n 16) n 16
-
 -- the entries below the count; a count past the 16 places lists them all
 abbrev pub listed-entries : Group → List BlockCacheEntry
 listed-entries g = take (g .count) (g .entries)
 
+-- their seqnos
 abbrev pub listed-seqnos : Group → List ℕ
 listed-seqnos g = each record-seqno (listed-entries g)
 
+-- the same of a master block
 abbrev pub master-seqno : MasterBlock → ℕ
 master-seqno b = record-seqno (b .entry)
 
@@ -56,14 +55,17 @@ beside [] ts = []
 beside (b ∷ bs) [] = []
 beside (b ∷ bs) (t ∷ ts) = record { entry = b; tops = t } ∷ beside bs ts
 
+-- the listed entries of the master group, each with its top items
 abbrev pub listed-masters : MasterGroup → List MasterBlock
 listed-masters g = beside (listed-entries (g .group)) (g .tops)
 
--- ===== a group with these entries, and zeros after them =====
+-- ===== a group with other entries =====
 
+-- these listed, zeros after them; mark and boundary as they were
 abbrev pub with-records : List BlockCacheEntry → Group → Group
 with-records bs g = record { entries = padded 16 zero-entry bs; count = length bs; mark = g .mark; boundary = g .boundary }
 
+-- the same with top items beside
 abbrev pub with-masters : List MasterBlock → MasterGroup → MasterGroup
 with-masters bs g =
     record {
@@ -73,13 +75,16 @@ with-masters bs g =
 
 -- ===== the entry at a seqno, zeros where there is none =====
 
+-- what stands at the place that a search found
 abbrev pub at-place : {A : Type 0} → A → List A → Found → A
 at-place z xs (found-at k) = getD xs k z
 at-place z xs (vacant-at k) = z
 
+-- where the seqno stands or would go in, and the entry there
 abbrev pub entry-at : ℕ → Group → EntryAt
 entry-at n g = record { found = place n (listed-seqnos g); entry = at-place zero-entry (listed-entries g) (place n (listed-seqnos g)) }
 
+-- the same of a master block
 abbrev pub master-at : ℕ → MasterGroup → MasterAt
 master-at n g =
     record {
@@ -92,6 +97,7 @@ abbrev pub when-found : {A : Type 0} → Found → A → Option A
 when-found (found-at k) a = some a
 when-found (vacant-at k) a = none
 
+-- an answer, as an option
 abbrev pub answered-entry : EntryAt → Option BlockCacheEntry
 answered-entry a = when-found (a .found) (a .entry)
 
@@ -100,20 +106,11 @@ answered-master a = when-found (a .found) (a .block)
 
 -- ===== an entry put in its place; one of the same seqno is replaced =====
 
--- the first `at` elements, a, and those of place `from` on
-abbrev pub spliced : {A : Type 0} → ℕ → ℕ → A → List A → List A
-spliced at from a xs = take at xs ++ a ∷ drop from xs
-
--- what that asks of n elements: they are 16 at most afterwards
-pub record Splices (at from n : ℕ) : Type 0 where
-  pub order : at ≤ from
-  pub within : from ≤ n
-  pub room : at + 1 + (n - from) ≤ 16
-
--- nothing changes where they would be more than 16
+-- by rising seqno; where they would be more than 16, nothing changes
 abbrev pub put-entry : BlockCacheEntry → Group → Group
 put-entry b g = pick (leb (length (put record-before b (listed-entries g))) 16) (with-records (put record-before b (listed-entries g)) g) g
 
+-- the same of a master block, with its top items
 abbrev pub put-master : MasterBlock → MasterGroup → MasterGroup
 put-master b g = pick (leb (length (put master-before b (listed-masters g))) 16) (with-masters (put master-before b (listed-masters g)) g) g
 
@@ -125,18 +122,15 @@ retains (retain-from n) b = leb n (record-seqno b)
 retains (retain-up-to n) b = leb (record-seqno b) n || kind-received (b .«data»)
 retains (retain-but n) b = not (eqb (record-seqno b) n)
 
--- the elements beside which a flag is set
-abbrev pub flagged : {A : Type 0} → List Bool → List A → List A
-flagged [] xs = []
-flagged (k ∷ ks) [] = []
-flagged (k ∷ ks) (x ∷ xs) = pick k (x ∷ flagged ks xs) (flagged ks xs)
-
+-- the listed entries that stay
 abbrev pub retain-entries : Retained → Group → Group
 retain-entries r g = with-records (filter (retains r) (listed-entries g)) g
 
+-- the master blocks that stay, with their top items
 abbrev pub retain-masters : Retained → MasterGroup → MasterGroup
 retain-masters r g = with-masters (filter (λ (b : MasterBlock). retains r (b .entry)) (listed-masters g)) g
 
+-- without the entry of a seqno
 abbrev pub remove-entry : ℕ → Group → Group
 remove-entry n g = retain-entries (retain-but n) g
 
@@ -145,8 +139,31 @@ remove-master n g = retain-masters (retain-but n) g
 
 -- ===== the boundary =====
 
+-- the boundary becomes the key, and nothing else changes
 abbrev pub set-group-boundary : BlockIdShort → Group → Group
 set-group-boundary k g = record { entries = g .entries; count = g .count; mark = g .mark; boundary = boundary-at k }
 
 abbrev pub set-master-boundary : BlockIdShort → MasterGroup → MasterGroup
 set-master-boundary k g = record { group = set-group-boundary k (g .group); tops = g .tops }
+
+-- ===== the steps by which the code does this =====
+
+-- the number of places below a count
+abbrev pub listed-count : ℕ → ℕ
+listed-count n = pick (ltb n 16) n 16
+
+-- the first `at` elements, a, and those of place `from` on
+abbrev pub spliced : {A : Type 0} → ℕ → ℕ → A → List A → List A
+spliced at from a xs = take at xs ++ a ∷ drop from xs
+
+-- what that asks of n elements in an array of so many places
+pub record Splices (places at from n : ℕ) : Type 0 where
+  pub order : at ≤ from
+  pub within : from ≤ n
+  pub room : at + 1 + (n - from) ≤ places
+
+-- the elements beside which a flag is set
+abbrev pub flagged : {A : Type 0} → List Bool → List A → List A
+flagged [] xs = []
+flagged (k ∷ ks) [] = []
+flagged (k ∷ ks) (x ∷ xs) = pick k (x ∷ flagged ks xs) (flagged ks xs)

@@ -1,7 +1,6 @@
 // Document 01, Group: up to 16 entries by rising seqno. The master group has its blocks' top items beside it, in the same places.
 ghost use mathlib.Core.Path.{_≡_};
 ghost use mathlib.Core.Bool.{false};
-ghost use Prim.Native.Nat.{_+_, _-_, _≤_};
 ghost use lib.ListN.{length, take};
 ghost use Rattle.block_records.specs.Zeros.{zero-tops};
 ghost use Rattle.block_records.specs.Lists.{each, padded};
@@ -147,7 +146,7 @@ pub fn master_at(masters: MasterGroup, seqno: u32) -> MasterAt
 
 // The first `at` entries, the given one, and those of place `from` on.
 fn put_entry_at(group: Group, at: usize, from: usize, entry: BlockCacheEntry) -> Group
-    requires { ⌜ Splices at from (length (listed-entries group)) ⌝ }
+    requires { ⌜ Splices 16 at from (length (listed-entries group)) ⌝ }
     ensures { λ r. ⌜ r ≡ with-records (spliced at from entry (listed-entries group)) group ⌝ }
 {
     let zero = zero_entry();
@@ -183,7 +182,7 @@ fn put_tops_at(
     from: usize,
     new: TopBlocks,
 ) -> [TopBlocks; 16]
-    requires { ⌜ Splices at from (length (take listed tops)) ⌝ }
+    requires { ⌜ Splices 16 at from (length (take listed tops)) ⌝ }
     ensures { λ r. ⌜ r ≡ padded 16 zero-tops (spliced at from new (take listed tops)) ⌝ }
 {
     let zero = zero_tops();
@@ -204,8 +203,9 @@ fn put_tops_at(
     out
 }
 
+// The same of both.
 fn put_master_at(masters: MasterGroup, at: usize, from: usize, block: MasterBlock) -> MasterGroup
-    requires { ⌜ Splices at from (length (listed-entries (masters .group))) ⌝ }
+    requires { ⌜ Splices 16 at from (length (listed-entries (masters .group))) ⌝ }
     ensures { λ r. ⌜ r ≡ with-masters (spliced at from block (listed-masters masters)) masters ⌝ }
 {
     let group = masters.group;
@@ -347,6 +347,7 @@ pub fn retain_masters(masters: MasterGroup, rule: Retained) -> MasterGroup
     }
 }
 
+// Without the entry of a seqno.
 pub fn remove_entry(group: Group, seqno: u32) -> Group
     ensures { λ r. ⌜ r ≡ remove-entry seqno group ⌝ }
 {
@@ -354,6 +355,7 @@ pub fn remove_entry(group: Group, seqno: u32) -> Group
     retain_entries(group, rule)
 }
 
+// Without the master block of a seqno.
 pub fn remove_master(masters: MasterGroup, seqno: u32) -> MasterGroup
     ensures { λ r. ⌜ r ≡ remove-master seqno masters ⌝ }
 {
@@ -361,6 +363,7 @@ pub fn remove_master(masters: MasterGroup, seqno: u32) -> MasterGroup
     retain_masters(masters, rule)
 }
 
+// The boundary becomes the key.
 pub fn set_group_boundary(group: Group, key: BlockIdShort) -> Group
     ensures { λ r. ⌜ r ≡ set-group-boundary key group ⌝ }
 {
@@ -375,6 +378,7 @@ pub fn set_group_boundary(group: Group, key: BlockIdShort) -> Group
     }
 }
 
+// The same of the master group.
 pub fn set_master_boundary(masters: MasterGroup, key: BlockIdShort) -> MasterGroup
     ensures { λ r. ⌜ r ≡ set-master-boundary key masters ⌝ }
 {

@@ -28,7 +28,7 @@ zero-tops-requires : tie.Need-zero-tops-requires Inv-loop μ-loop
 zero-tops-requires c κs = search needs
 
 loop-holds : tie.Need-loop-holds Inv-loop μ-loop
-loop-holds c = (search needs, rw (c .zero-tops .ensures) (compact-start 16 zero-tops _ _))
+loop-holds c = search (compact-start, needs)
 
 array-read-if1 : tie.Need-array-read-if1 Inv-loop μ-loop
 array-read-if1 c = search needs

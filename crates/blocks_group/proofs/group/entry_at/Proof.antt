@@ -35,7 +35,9 @@ zero-entry-requires : tie.Need-zero-entry-requires
 zero-entry-requires c κs = search needs
 
 returns : tie.Need-returns
-returns c = let s = c .before .before .before .before in entry-vacant (s .args .t1) (len s) (s .args .seqno) _ _ _ (c .before .before .before .find .ensures) (c .before .enum-told .given .1) (c .zero-entry .ensures)
+returns c =
+    let s = c .before .before .before .before in
+    entry-vacant (s .args .t1) (len s) (s .args .seqno) _ _ _ (c .before .before .before .find .ensures) (c .before .enum-told .given .1) (c .zero-entry .ensures)
 
 mul-entry : tie.Need-mul-entry
 mul-entry c = omega (arith, small c)
@@ -44,7 +46,9 @@ element-copy-out-entry : tie.Need-element-copy-out-entry
 element-copy-out-entry c = small c
 
 returns-2 : tie.Need-returns-2
-returns-2 c = let s = c .before .before .before .before .before in entry-found (s .args .t1) (len s) (s .args .seqno) (c .before .before .found .given .0 .0) (at (c .before)) _
+returns-2 c =
+    let s = c .before .before .before .before .before in
+    entry-found (s .args .t1) (len s) (s .args .seqno) (c .before .before .found .given .0 .0) (at (c .before)) _
 
 pub entry-at-spec : {M : Type 1} → statement M
 entry-at-spec =

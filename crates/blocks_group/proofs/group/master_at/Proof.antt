@@ -23,7 +23,9 @@ at : (c : tie.After-known-told) → place (c .before .before .before .before .be
 at c = sym (c .before .before .before .find .ensures) ∙ c .before .found .given .1
 
 small : (c : tie.After-known-told) → c .before .found .given .0 .0 < 16
-small c = let s = c .before .before .before .before .before in found-place (s .args .t1 .group) (len s) (s .args .seqno) (c .before .found .given .0 .0) (at c)
+small c =
+    let s = c .before .before .before .before .before in
+    found-place (s .args .t1 .group) (len s) (s .args .seqno) (c .before .found .given .0 .0) (at c)
 
 find-requires : tie.Need-find-requires
 find-requires c κs = search needs
@@ -53,7 +55,9 @@ element-copy-out-tops : tie.Need-element-copy-out-tops
 element-copy-out-tops c = small (c .before)
 
 returns-2 : tie.Need-returns-2
-returns-2 c = let s = c .before .before .before .before .before .before .before in master-found (s .args .t1) (len s) (len-tops s) (s .args .seqno) (c .before .before .before .found .given .0 .0) (at (c .before .before)) _ _
+returns-2 c =
+    let s = c .before .before .before .before .before .before .before in
+    master-found (s .args .t1) (len s) (len-tops s) (s .args .seqno) (c .before .before .before .found .given .0 .0) (at (c .before .before)) _ _
 
 pub master-at-spec : {M : Type 1} → statement M
 master-at-spec =

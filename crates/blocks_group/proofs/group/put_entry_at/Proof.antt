@@ -15,7 +15,7 @@ use Rattle.blocks_group.proofs.group.put_entry_at.Statement.{statement}
 use Rattle.blocks_group.proofs.group.put_entry_at.Tie as tie
 
 abbrev Inv-loop : tie.InvT-loop
-Inv-loop at from entry group out₀ count n j₀ out j = Splicing zero-entry at from entry (group .entries) count n j out
+Inv-loop at from entry group out₀ count n j₀ out j = Splicing 16 zero-entry at from entry (group .entries) count n j out
 
 abbrev μ-loop : tie.MeasureT-loop
 μ-loop at from entry group out₀ count n j₀ out j = n - j
@@ -23,8 +23,8 @@ abbrev μ-loop : tie.MeasureT-loop
 len : (c : tie.Start Inv-loop μ-loop) → length (c .args .t1 .entries) ≡ 16
 len c = search (needs, length-mapped)
 
-room : (c : tie.Start Inv-loop μ-loop) (k : ℕ) → k ≡ listed-count (c .args .t1 .count) → Splices (c .args .at) (c .args .from) k
-room s k e = splice-start zero-entry (s .args .at) (s .args .from) (s .args .entry) (s .args .t1 .entries) (s .args .t1 .count) (s .pre) (len s) k e .split
+room : (c : tie.Start Inv-loop μ-loop) (k : ℕ) → k ≡ listed-count (c .args .t1 .count) → Splices 16 (c .args .at) (c .args .from) k
+room s k e = splice-start 16 zero-entry (s .args .at) (s .args .from) (s .args .entry) (s .args .t1 .entries) (s .args .t1 .count) (s .pre) (len s) k e .split
 
 zero-entry-requires : tie.Need-zero-entry-requires Inv-loop μ-loop
 zero-entry-requires c κs = search needs
@@ -42,7 +42,9 @@ add-n-2 : tie.Need-add-n-2 Inv-loop μ-loop
 add-n-2 c = let p = room (c .before .before) (c .listed-count .result) (c .listed-count .ensures) in omega arith
 
 loop-holds : tie.Need-loop-holds Inv-loop μ-loop
-loop-holds c = let s = c .before .before in rw (c .before .zero-entry .ensures) (splice-start zero-entry (s .args .at) (s .args .from) (s .args .entry) (s .args .t1 .entries) (s .args .t1 .count) (s .pre) (len s) _ (c .listed-count .ensures))
+loop-holds c =
+    let s = c .before .before in
+    rw (c .before .zero-entry .ensures) (splice-start 16 zero-entry (s .args .at) (s .args .from) (s .args .entry) (s .args .t1 .entries) (s .args .t1 .count) (s .pre) (len s) _ (c .listed-count .ensures))
 
 mul-out : tie.Need-mul-out Inv-loop μ-loop
 mul-out c = search needs
@@ -92,10 +94,10 @@ loop-again c =
     let s = c .before .before .before .before .before in
     let t = c .before .loop-test .taken in
     ⊎-elim
-    (λ w. rw (w .2) (splice-before zero-entry _ _ _ (s .args .t1 .entries) _ _ _ _ (h .inv) (len s) _ (w .0 .taken) t))
+    (λ w. rw (w .2) (splice-before 16 zero-entry _ _ _ (s .args .t1 .entries) _ _ _ _ (h .inv) (len s) _ (w .0 .taken) t))
     (⊎-elim
-    (λ w. rw (w .2) (splice-here zero-entry _ _ _ (s .args .t1 .entries) _ _ _ _ (h .inv) (len s) (w .1 .taken) t))
-    (λ w. rw (w .3) (splice-after zero-entry _ _ _ (s .args .t1 .entries) _ _ _ _ (h .inv) (len s) _ (w .0 .left) (w .1 .left) t)))
+    (λ w. rw (w .2) (splice-here 16 zero-entry _ _ _ (s .args .t1 .entries) _ _ _ _ (h .inv) (len s) (w .1 .taken) t))
+    (λ w. rw (w .3) (splice-after 16 zero-entry _ _ _ (s .args .t1 .entries) _ _ _ _ (h .inv) (len s) _ (w .0 .left) (w .1 .left) t)))
     (c .if1 .came)
 
 returns : tie.Need-returns Inv-loop μ-loop
@@ -103,7 +105,7 @@ returns c =
     let h = c .before .loop in
     let s = c .before .before .before .before in
     let x = s .args .t1 .entries in
-    let e = splice-end zero-entry (s .args .at) (s .args .from) (s .args .entry) x _ _ _ _ (h .inv) (len s) (c .loop-test .left) in
+    let e = splice-end 16 zero-entry (s .args .at) (s .args .from) (s .args .entry) x _ _ _ _ (h .inv) (len s) (c .loop-test .left) in
     let same = ap (λ i. take i x) (c .before .before .listed-count .ensures) ∙ take-within 16 (s .args .t1 .count) x (len s) in
     let n = e .0 ∙ ap (λ r. length (spliced (s .args .at) (s .args .from) (s .args .entry) r)) same in
     let o = e .1 ∙ ap (λ r. padded 16 zero-entry (spliced (s .args .at) (s .args .from) (s .args .entry) r)) same in

@@ -15,7 +15,7 @@ use Rattle.blocks_group.proofs.group.put_tops_at.Statement.{statement}
 use Rattle.blocks_group.proofs.group.put_tops_at.Tie as tie
 
 abbrev Inv-loop : tie.InvT-loop
-Inv-loop listed at from new tops out₀ count n j₀ out j = Splicing zero-tops at from new tops count n j out
+Inv-loop listed at from new tops out₀ count n j₀ out j = Splicing 16 zero-tops at from new tops count n j out
 
 abbrev μ-loop : tie.MeasureT-loop
 μ-loop listed at from new tops out₀ count n j₀ out j = n - j
@@ -23,8 +23,8 @@ abbrev μ-loop : tie.MeasureT-loop
 len : (c : tie.Start Inv-loop μ-loop) → length (c .args .t1) ≡ 16
 len c = search (needs, length-mapped)
 
-room : (c : tie.Start Inv-loop μ-loop) (k : ℕ) → k ≡ listed-count (c .args .listed) → Splices (c .args .at) (c .args .from) k
-room s k e = splice-start zero-tops (s .args .at) (s .args .from) (s .args .new) (s .args .t1) (s .args .listed) (s .pre) (len s) k e .split
+room : (c : tie.Start Inv-loop μ-loop) (k : ℕ) → k ≡ listed-count (c .args .listed) → Splices 16 (c .args .at) (c .args .from) k
+room s k e = splice-start 16 zero-tops (s .args .at) (s .args .from) (s .args .new) (s .args .t1) (s .args .listed) (s .pre) (len s) k e .split
 
 zero-tops-requires : tie.Need-zero-tops-requires Inv-loop μ-loop
 zero-tops-requires c κs = search needs
@@ -42,7 +42,9 @@ add-n-2 : tie.Need-add-n-2 Inv-loop μ-loop
 add-n-2 c = let p = room (c .before .before) (c .listed-count .result) (c .listed-count .ensures) in omega arith
 
 loop-holds : tie.Need-loop-holds Inv-loop μ-loop
-loop-holds c = let s = c .before .before in rw (c .before .zero-tops .ensures) (splice-start zero-tops (s .args .at) (s .args .from) (s .args .new) (s .args .t1) (s .args .listed) (s .pre) (len s) _ (c .listed-count .ensures))
+loop-holds c =
+    let s = c .before .before in
+    rw (c .before .zero-tops .ensures) (splice-start 16 zero-tops (s .args .at) (s .args .from) (s .args .new) (s .args .t1) (s .args .listed) (s .pre) (len s) _ (c .listed-count .ensures))
 
 mul-out : tie.Need-mul-out Inv-loop μ-loop
 mul-out c = search needs
@@ -92,10 +94,10 @@ loop-again c =
     let s = c .before .before .before .before .before in
     let t = c .before .loop-test .taken in
     ⊎-elim
-    (λ w. rw (w .2) (splice-before zero-tops _ _ _ (s .args .t1) _ _ _ _ (h .inv) (len s) _ (w .0 .taken) t))
+    (λ w. rw (w .2) (splice-before 16 zero-tops _ _ _ (s .args .t1) _ _ _ _ (h .inv) (len s) _ (w .0 .taken) t))
     (⊎-elim
-    (λ w. rw (w .2) (splice-here zero-tops _ _ _ (s .args .t1) _ _ _ _ (h .inv) (len s) (w .1 .taken) t))
-    (λ w. rw (w .3) (splice-after zero-tops _ _ _ (s .args .t1) _ _ _ _ (h .inv) (len s) _ (w .0 .left) (w .1 .left) t)))
+    (λ w. rw (w .2) (splice-here 16 zero-tops _ _ _ (s .args .t1) _ _ _ _ (h .inv) (len s) (w .1 .taken) t))
+    (λ w. rw (w .3) (splice-after 16 zero-tops _ _ _ (s .args .t1) _ _ _ _ (h .inv) (len s) _ (w .0 .left) (w .1 .left) t)))
     (c .if1 .came)
 
 returns : tie.Need-returns Inv-loop μ-loop
@@ -103,7 +105,7 @@ returns c =
     let h = c .before .loop in
     let s = c .before .before .before .before in
     let x = s .args .t1 in
-    let e = splice-end zero-tops (s .args .at) (s .args .from) (s .args .new) x _ _ _ _ (h .inv) (len s) (c .loop-test .left) in
+    let e = splice-end 16 zero-tops (s .args .at) (s .args .from) (s .args .new) x _ _ _ _ (h .inv) (len s) (c .loop-test .left) in
     let same = ap (λ i. take i x) (c .before .before .listed-count .ensures) ∙ take-within 16 (s .args .listed) x (len s) in
     e .1 ∙ ap (λ r. padded 16 zero-tops (spliced (s .args .at) (s .args .from) (s .args .new) r)) same
 

@@ -14,7 +14,9 @@ compact-entries-requires : tie.Need-compact-entries-requires
 compact-entries-requires c κs = search needs
 
 returns : tie.Need-returns
-returns c = let s = c .before .before in c .compact-entries .ensures ∙ ap (λ k. with-records (flagged k (s .args .group .entries)) (s .args .group)) (c .before .keep-flags .ensures) ∙ retain-entries-by-flags (s .args .rule) (s .args .group)
+returns c =
+    let s = c .before .before in
+    c .compact-entries .ensures ∙ ap (λ k. with-records (flagged k (s .args .group .entries)) (s .args .group)) (c .before .keep-flags .ensures) ∙ retain-entries-by-flags (s .args .rule) (s .args .group)
 
 pub retain-entries-spec : {M : Type 1} → statement M
 retain-entries-spec = tie.close (tie.spec keep-flags-requires compact-entries-requires returns)
