@@ -1,0 +1,215 @@
+-- Lists that stand in arrays, over any element type: the first places, and one turn of each kind of loop over them.
+-- Assumes nothing.
+use mathlib.Core.Bool.{Bool, _&&_, false, true}
+use mathlib.Core.List.{List, [], _++_, _∷_, append-nil}
+use mathlib.Core.Option.{some}
+use mathlib.Core.Path.{_∙_, _≡_, ap, refl, sym}
+use Prim.Native.Nat.{_+_, _-_, _<_, _≤_, suc, zero, ℕ}
+use native.Mathlib.Nat.{le-refl}
+use native.Mathlib.Numerals.{add-one}
+use native.Mathlib.Omega.{arith}
+use borrow.Author.Tests.{le-ltb, ltb-false, ltb-true}
+use lib.Dec.{ltb}
+use lib.ListN.{List·getD-append, drop, drop-of-length-le, getD, length, length-append, length-drop, replicate, set, take}
+use lib.Seq.{getD-append-add, getD-at, getD-drop, getD-take, length-take-le, take-all, take-nil}
+use Rattle.block_records.proofs.ListLaws.{Order, all-weaken}
+use Rattle.block_records.proofs.LoopLaws.{drop-next, left, padded-nil, set-padded, take-more}
+use Rattle.block_records.proofs.Tests.{and-intro, and-left, and-right, iff-same, on}
+use Rattle.block_records.specs.Lists.{all, filter, find, last, padded, pick, present, rising}
+
+-- a count, or the number of places where it is past them
+pub within-few : (size n : ℕ) → pick (ltb n size) n size ≤ size
+within-few size n = on (ltb n size) (λ t. rw t (let m = ltb-true n size t in omega arith)) (λ t. rw t (le-refl size))
+
+-- ===== the first places =====
+
+module _ {A : Type 0} where
+  -- a count past the places is the number of places
+  pub take-within : (size n : ℕ) (xs : List A) → length xs ≡ size → take (pick (ltb n size) n size) xs ≡ take n xs
+  take-within size n xs l =
+      on (ltb n size) (λ t. rw t)
+      (λ t. rw t (let m = ltb-false n size t in take-all size xs (omega arith) ∙ sym (take-all n xs (omega arith))))
+
+  -- how many are listed
+  pub length-within : (size n : ℕ) (xs : List A) → length xs ≡ size → length (take n xs) ≡ pick (ltb n size) n size
+  length-within size n xs l =
+      on (ltb n size)
+      (λ t. rw t (let m = ltb-true n size t in length-take-le n xs (omega arith)))
+      (λ t. rw t (let m = ltb-false n size t in ap length (take-all n xs (omega arith)) ∙ l))
+
+  -- those listed are fewer than the places exactly if the count is
+  pub few-listed : (size n : ℕ) (xs : List A) → length xs ≡ size → ltb (length (take n xs)) size ≡ ltb n size
+  few-listed size n xs l =
+      rw (length-within size n xs l) (on (ltb n size) (λ t. rw t t) (λ t. rw t (le-ltb size size (le-refl size))))
+
+  -- the last of the first n
+  last-snoc : (xs : List A) (a : A) → last (xs ++ (a ∷ [])) ≡ some a
+  last-snoc [] a = refl
+  last-snoc (x ∷ []) a = refl
+  last-snoc (x ∷ y ∷ ys) a = last-snoc (y ∷ ys) a
+
+  pub last-take : (xs : List A) (n : ℕ) (d : A) → 0 < n → n ≤ length xs → last (take n xs) ≡ some (getD xs (n - 1) d)
+  last-take xs n d p h =
+      let k : n ≡ n - 1 + 1 = omega arith in
+      let e : take n xs ≡ take (n - 1) xs ++ (getD xs (n - 1) d ∷ []) = ap (λ (j : ℕ). take j xs) k ∙ take-more xs (n - 1) d (omega arith) in
+      rw e (last-snoc (take (n - 1) xs) (getD xs (n - 1) d))
+
+  -- what is left of the first `count`, from place i on
+  pub left-more : (l : List A) (count i : ℕ) (d : A) → i < length l → i < count → left l count i ≡ getD l i d ∷ left l count (i + 1)
+  left-more l count i d h k = let e : count - i ≡ suc (count - (i + 1)) = omega arith in rw (drop-next l i d h, e)
+
+  pub left-passed : (l : List A) (count i : ℕ) → count ≤ i → left l count i ≡ []
+  left-passed l count i h = let e : count - i ≡ 0 = omega arith in rw e
+
+-- ===== a search for one that passes, at place i of the first `count` =====
+
+module _ {A : Type 0} (p : A → Bool) (d : A) (l : List A) (count i : ℕ) where
+  pub any-next : i < length l → i < count → p (getD l i d) ≡ false → present (find p (left l count i)) ≡ present (find p (left l count (i + 1)))
+  any-next h k e = rw (left-more l count i d h k, e)
+
+  pub any-stop : i < length l → i < count → p (getD l i d) ≡ true → present (find p (left l count i)) ≡ true
+  any-stop h k e = rw (left-more l count i d h k, e)
+
+  pub any-passed : count ≤ i → present (find p (left l count i)) ≡ false
+  any-passed h = rw (left-passed l count i h)
+
+-- ===== a test that each element comes before the next =====
+
+module _ {A : Type 0} (lt : A → A → Bool) where
+  abbrev pub neighbours : List A → Bool
+  neighbours [] = true
+  neighbours (x ∷ []) = true
+  neighbours (x ∷ y ∷ ys) = lt x y && neighbours (y ∷ ys)
+
+  -- by a transitive order that is that each comes before all that follow
+  pub rising-neighbours : Order lt → (xs : List A) → rising lt xs ≡ neighbours xs
+  rising-neighbours o [] = refl
+  rising-neighbours o (x ∷ []) = refl
+  rising-neighbours o (x ∷ y ∷ ys) = rw (← rising-neighbours o (y ∷ ys)) (on (lt x y) yes (λ t. rw t))
+    where
+      yes : lt x y ≡ true → rising lt (x ∷ y ∷ ys) ≡ lt x y && rising lt (y ∷ ys)
+      yes t =
+          rw t
+          (iff-same (all (lt x) ys && rising lt (y ∷ ys)) (rising lt (y ∷ ys)) (and-right (all (lt x) ys) (rising lt (y ∷ ys)))
+          (λ h. and-intro (all-weaken (lt y) (lt x) ys (λ z l. o .trans x y z t l) (and-left (all (lt y) ys) (rising lt ys) h)) h))
+
+  module _ (d : A) (l : List A) (count i : ℕ) where
+    pair-next : 0 < i → i < length l → i < count → neighbours (left l count (i - 1)) ≡ lt (getD l (i - 1) d) (getD l i d) && neighbours (left l count i)
+    pair-next p h k =
+        let e : i - 1 + 1 ≡ i = omega arith in
+        let q : left l count (i - 1) ≡ getD l (i - 1) d ∷ left l count i = left-more l count (i - 1) d (omega arith) (omega arith) ∙ ap (λ (j : ℕ). getD l (i - 1) d ∷ left l count j) e in
+        rw (q, left-more l count i d h k)
+
+    pub rise-next : 0 < i → i < length l → i < count → lt (getD l (i - 1) d) (getD l i d) ≡ true → neighbours (left l count (i - 1)) ≡ neighbours (left l count (i + 1 - 1))
+    rise-next p h k e = let q : i + 1 - 1 ≡ i = omega arith in rw (pair-next p h k, e, q)
+
+    pub rise-stop : 0 < i → i < length l → i < count → lt (getD l (i - 1) d) (getD l i d) ≡ false → neighbours (left l count (i - 1)) ≡ false
+    rise-stop p h k e = rw (pair-next p h k, e)
+
+    -- one at most is left
+    pub rise-passed : 0 < i → i ≤ length l + 1 → count ≤ i → neighbours (left l count (i - 1)) ≡ true
+    rise-passed p h k =
+        on (ltb (i - 1) count)
+        (λ t.
+        let m = ltb-true (i - 1) count t in
+        on (ltb (i - 1) (length l))
+        (λ u. let v = ltb-true (i - 1) (length l) u in rw (left-more l count (i - 1) d v m, left-passed l count (i - 1 + 1) (omega arith)))
+        (λ u. let v = ltb-false (i - 1) (length l) u in rw (drop-of-length-le l {i = i - 1} v, take-nil (count - (i - 1)))))
+        (λ t. let m = ltb-false (i - 1) count t in rw (left-passed l count (i - 1) m))
+
+-- ===== a loop that moves the elements that pass together: after the first i of l, n are in `out` =====
+
+module _ {A : Type 0} (p : A → Bool) where
+  filter-suc : (l : List A) (i : ℕ) (d : A) → i < length l → filter p (take (suc i) l) ≡ filter p (take i l) ++ pick (p (getD l i d)) (getD l i d ∷ []) []
+  filter-suc [] i d h = absurd (omega arith)
+  filter-suc (x ∷ xs) zero d h = refl
+  filter-suc (x ∷ xs) (suc i) d h = let ih = filter-suc xs i d (omega arith) in on (p x) (λ t. rw (t, ih)) (λ t. rw (t, ih))
+
+  filter-yes : (l : List A) (i : ℕ) (d : A) → i < length l → p (getD l i d) ≡ true → filter p (take (i + 1) l) ≡ filter p (take i l) ++ (getD l i d ∷ [])
+  filter-yes l i d h e = rw add-one (rw e at (filter-suc l i d h))
+
+  filter-no : (l : List A) (i : ℕ) (d : A) → i < length l → p (getD l i d) ≡ false → filter p (take (i + 1) l) ≡ filter p (take i l)
+  filter-no l i d h e = rw add-one (filter-suc l i d h ∙ rw (e, append-nil))
+
+  -- where the loop stands
+  pub record Retained (size : ℕ) (z : A) (l : List A) (i n : ℕ) (out : List A) : Type 0 where
+    pub few : n ≤ i
+    pub count : n ≡ length (filter p (take i l))
+    pub places : out ≡ padded size z (filter p (take i l))
+
+  pub retain-start : (size : ℕ) (z : A) (l : List A) → Retained size z l 0 0 (replicate size z)
+  retain-start size z l = record { few = le-refl 0; count = refl; places = sym (padded-nil size z) }
+
+  module _ (size : ℕ) (z : A) (l : List A) (i n : ℕ) (out : List A) (c : Retained size z l i n out) where
+    pub retain-yes : (d : A) → p (getD l i d) ≡ true → i < length l → i < size → Retained size z l (i + 1) (n + 1) (set out n (getD l i d))
+    retain-yes d e h b =
+        let q = filter-yes l i d h e in
+        let f = c .few in
+        record {
+          few = omega arith;
+          count = rw (q, length-append, ← c .count);
+          places = rw (c .places, q) (set-padded size z (filter p (take i l)) n (getD l i d) (sym (c .count)) (omega arith));
+        }
+
+    pub retain-no : (d : A) → p (getD l i d) ≡ false → i < length l → Retained size z l (i + 1) n out
+    retain-no d e h =
+        let q = filter-no l i d h e in
+        let f = c .few in
+        record { few = omega arith; count = rw q (c .count); places = rw q (c .places) }
+
+    pub retain-end : (k : ℕ) → i ≡ k → (n ≡ length (filter p (take k l))) × (out ≡ padded size z (filter p (take k l)))
+    retain-end k e = (rw e at (c .count), rw e at (c .places))
+
+-- ===== one element for those from place `at` up to `from` =====
+
+abbrev spliced : {A : Type 0} → ℕ → ℕ → A → List A → List A
+spliced at from a xs = take at xs ++ a ∷ drop from xs
+
+module _ {A : Type 0} (at from : ℕ) (a : A) (xs : List A) (p : at ≤ from) (q : from ≤ length xs) where
+  pub length-spliced : length (spliced at from a xs) ≡ at + 1 + (length xs - from)
+  length-spliced = simp (length-append, length-drop, length-take-le at xs (omega arith)) (omega arith)
+
+  spliced-before : (j : ℕ) (d : A) → j < at → getD (spliced at from a xs) j d ≡ getD xs j d
+  spliced-before j d h =
+      let l = length-take-le at xs (omega arith) in
+      List·getD-append (take at xs) (a ∷ drop from xs) d j (omega arith) ∙ getD-take at xs j d h
+
+  spliced-here : (d : A) → getD (spliced at from a xs) at d ≡ a
+  spliced-here d = getD-at (take at xs) a (drop from xs) d at (length-take-le at xs (omega arith))
+
+  spliced-after : (j : ℕ) (d : A) → at < j → getD (spliced at from a xs) j d ≡ getD xs (from + (j - at - 1)) d
+  spliced-after j d h =
+      let l : length (take at xs) ≡ at = length-take-le at xs (omega arith) in
+      let e : j ≡ length (take at xs) + suc (j - at - 1) = omega arith in
+      ap (λ (i : ℕ). getD (spliced at from a xs) i d) e ∙ getD-append-add (take at xs) (a ∷ drop from xs) (suc (j - at - 1)) d ∙ getD-drop from xs (j - at - 1) d
+
+-- a loop that fills an array with the first k of l so changed, at place j
+module _ {A : Type 0} (n : ℕ) (z : A) (at from : ℕ) (a : A) (l : List A) (k : ℕ) (p : at ≤ from) (q : from ≤ k) (r : at + 1 + (k - from) ≤ n) (few : k ≤ length l)
+    (out : List A) (j : ℕ) (o : out ≡ padded n z (take j (spliced at from a (take k l)))) where
+  within : from ≤ length (take k l)
+  within = omega (arith, length-take-le k l few)
+
+  pub spliced-length : length (spliced at from a (take k l)) ≡ at + 1 + (k - from)
+  spliced-length = length-spliced at from a (take k l) p within ∙ ap (λ (i : ℕ). at + 1 + (i - from)) (length-take-le k l few)
+
+  splice-turn : (v d : A) → v ≡ getD (spliced at from a (take k l)) j d → j < at + 1 + (k - from) → set out j v ≡ padded n z (take (j + 1) (spliced at from a (take k l)))
+  splice-turn v d e h =
+      let m = spliced-length in
+      rw (o, e, take-more (spliced at from a (take k l)) j d (omega arith))
+      (set-padded n z (take j (spliced at from a (take k l))) j (getD (spliced at from a (take k l)) j d) (length-take-le j (spliced at from a (take k l)) (omega arith)) (omega arith))
+
+  pub splice-before : (d : A) → j < at → set out j (getD l j d) ≡ padded n z (take (j + 1) (spliced at from a (take k l)))
+  splice-before d h =
+      splice-turn (getD l j d) d (sym (spliced-before at from a (take k l) p within j d h ∙ getD-take k l j d (omega arith))) (omega arith)
+
+  pub splice-here : j ≡ at → set out j a ≡ padded n z (take (j + 1) (spliced at from a (take k l)))
+  splice-here e =
+      splice-turn a a (sym (ap (λ (i : ℕ). getD (spliced at from a (take k l)) i a) e ∙ spliced-here at from a (take k l) p within a)) (omega arith)
+
+  pub splice-after : (d : A) → at < j → j < at + 1 + (k - from) → set out j (getD l (from + (j - at - 1)) d) ≡ padded n z (take (j + 1) (spliced at from a (take k l)))
+  splice-after d h m =
+      splice-turn (getD l (from + (j - at - 1)) d) d
+      (sym (spliced-after at from a (take k l) p within j d h ∙ getD-take k l (from + (j - at - 1)) d (omega arith))) m
+
+  pub splice-end : at + 1 + (k - from) ≤ j → out ≡ padded n z (spliced at from a (take k l))
+  splice-end h = let m = spliced-length in o ∙ ap (padded n z) (take-all j (spliced at from a (take k l)) (omega arith))
