@@ -3,7 +3,7 @@
 use mathlib.Core.Bool.{Bool}
 use mathlib.Core.List.{List, [], _++_, _∷_}
 use Prim.Native.Nat.{_+_, _-_, _≤_, suc, ℕ}
-use lib.ListN.{drop, take}
+use lib.ListN.{drop, length, take}
 use Rattle.blocks_cache.specs.declared.place.Place.{Place}
 use Rattle.blocks_cache.specs.declared.place.Place.the-variants.{At as place-at, Vacant as place-vacant}
 use Rattle.block_records.specs.Lists.{pick}
@@ -21,7 +21,11 @@ module _ {A : Type 0} where
   abbrev pub spliced : ℕ → ℕ → A → List A → List A
   spliced at from a xs = take at xs ++ a ∷ drop from xs
 
--- what that asks of n elements: they are `size` at most afterwards
+  -- these elements, and what stood in the places after them
+  abbrev pub overwritten : List A → List A → List A
+  overwritten xs l = xs ++ drop (length xs) l
+
+-- what `spliced` asks of n elements: they are `size` at most afterwards
 pub record Splices (size at from n : ℕ) : Type 0 where
   pub order : at ≤ from
   pub within : from ≤ n
