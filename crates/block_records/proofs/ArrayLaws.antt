@@ -1,21 +1,21 @@
 -- Lists that stand in arrays, over any element type: the first places, and one turn of each kind of loop over them.
 -- Assumes nothing.
 use mathlib.Core.Bool.{Bool, _&&_, false, true}
-use mathlib.Core.List.{List, [], _++_, _∷_, append-nil}
+use mathlib.Core.List.{List, [], _++_, _∷_, append-assoc, append-nil}
 use mathlib.Core.Option.{some}
-use mathlib.Core.Path.{_∙_, _≡_, ap, refl, sym}
+use mathlib.Core.Path.{_∙_, _≡_, ap, ap₂, refl, sym}
 use Prim.Native.Nat.{_+_, _-_, _<_, _≤_, suc, zero, ℕ}
 use native.Mathlib.Nat.{le-refl}
 use native.Mathlib.Numerals.{add-one}
 use native.Mathlib.Omega.{arith}
 use borrow.Author.Tests.{le-ltb, ltb-false, ltb-true}
 use lib.Dec.{ltb}
-use lib.ListN.{List·getD-append, drop, drop-of-length-le, getD, length, length-append, length-drop, replicate, set, take}
-use lib.Seq.{getD-append-add, getD-at, getD-drop, getD-take, length-take-le, take-all, take-nil}
+use lib.ListN.{List·getD-append, drop, drop-of-length-le, getD, length, length-append, length-drop, length-set, replicate, set, take, take-append-drop}
+use lib.Seq.{drop-append-add, drop-append-le, drop-cons, getD-append-add, getD-at, getD-drop, getD-take, length-take-le, set-at, set-set, set-split, take-all, take-nil, take-set-le, take-take}
 use Rattle.block_records.proofs.ListLaws.{Order, all-weaken}
 use Rattle.block_records.proofs.LoopLaws.{drop-next, left, padded-nil, set-padded, take-more}
 use Rattle.block_records.proofs.Tests.{and-intro, and-left, and-right, iff-same, on}
-use Rattle.block_records.specs.Lists.{all, filter, find, last, padded, pick, present, rising}
+use Rattle.block_records.specs.Lists.{all, each, filter, find, last, padded, pick, present, put, rising}
 
 -- a count, or the number of places where it is past them
 pub within-few : (size n : ℕ) → pick (ltb n size) n size ≤ size
@@ -42,12 +42,12 @@ module _ {A : Type 0} where
   few-listed size n xs l =
       rw (length-within size n xs l) (on (ltb n size) (λ t. rw t t) (λ t. rw t (le-ltb size size (le-refl size))))
 
-  -- the last of the first n
   last-snoc : (xs : List A) (a : A) → last (xs ++ (a ∷ [])) ≡ some a
   last-snoc [] a = refl
   last-snoc (x ∷ []) a = refl
   last-snoc (x ∷ y ∷ ys) a = last-snoc (y ∷ ys) a
 
+  -- the last of the first n
   pub last-take : (xs : List A) (n : ℕ) (d : A) → 0 < n → n ≤ length xs → last (take n xs) ≡ some (getD xs (n - 1) d)
   last-take xs n d p h =
       let k : n ≡ n - 1 + 1 = omega arith in
@@ -58,18 +58,22 @@ module _ {A : Type 0} where
   pub left-more : (l : List A) (count i : ℕ) (d : A) → i < length l → i < count → left l count i ≡ getD l i d ∷ left l count (i + 1)
   left-more l count i d h k = let e : count - i ≡ suc (count - (i + 1)) = omega arith in rw (drop-next l i d h, e)
 
+  -- nothing is left past the count
   pub left-passed : (l : List A) (count i : ℕ) → count ≤ i → left l count i ≡ []
   left-passed l count i h = let e : count - i ≡ 0 = omega arith in rw e
 
 -- ===== a search for one that passes, at place i of the first `count` =====
 
 module _ {A : Type 0} (p : A → Bool) (d : A) (l : List A) (count i : ℕ) where
+  -- this one does not pass
   pub any-next : i < length l → i < count → p (getD l i d) ≡ false → present (find p (left l count i)) ≡ present (find p (left l count (i + 1)))
   any-next h k e = rw (left-more l count i d h k, e)
 
+  -- this one passes
   pub any-stop : i < length l → i < count → p (getD l i d) ≡ true → present (find p (left l count i)) ≡ true
   any-stop h k e = rw (left-more l count i d h k, e)
 
+  -- none of them passed
   pub any-passed : count ≤ i → present (find p (left l count i)) ≡ false
   any-passed h = rw (left-passed l count i h)
 
@@ -100,9 +104,11 @@ module _ {A : Type 0} (lt : A → A → Bool) where
         let q : left l count (i - 1) ≡ getD l (i - 1) d ∷ left l count i = left-more l count (i - 1) d (omega arith) (omega arith) ∙ ap (λ (j : ℕ). getD l (i - 1) d ∷ left l count j) e in
         rw (q, left-more l count i d h k)
 
+    -- this one comes after the one before it
     pub rise-next : 0 < i → i < length l → i < count → lt (getD l (i - 1) d) (getD l i d) ≡ true → neighbours (left l count (i - 1)) ≡ neighbours (left l count (i + 1 - 1))
     rise-next p h k e = let q : i + 1 - 1 ≡ i = omega arith in rw (pair-next p h k, e, q)
 
+    -- this one does not
     pub rise-stop : 0 < i → i < length l → i < count → lt (getD l (i - 1) d) (getD l i d) ≡ false → neighbours (left l count (i - 1)) ≡ false
     rise-stop p h k e = rw (pair-next p h k, e)
 
@@ -137,10 +143,12 @@ module _ {A : Type 0} (p : A → Bool) where
     pub count : n ≡ length (filter p (take i l))
     pub places : out ≡ padded size z (filter p (take i l))
 
+  -- before the first turn
   pub retain-start : (size : ℕ) (z : A) (l : List A) → Retained size z l 0 0 (replicate size z)
   retain-start size z l = record { few = le-refl 0; count = refl; places = sym (padded-nil size z) }
 
   module _ (size : ℕ) (z : A) (l : List A) (i n : ℕ) (out : List A) (c : Retained size z l i n out) where
+    -- this one passes
     pub retain-yes : (d : A) → p (getD l i d) ≡ true → i < length l → i < size → Retained size z l (i + 1) (n + 1) (set out n (getD l i d))
     retain-yes d e h b =
         let q = filter-yes l i d h e in
@@ -151,12 +159,14 @@ module _ {A : Type 0} (p : A → Bool) where
           places = rw (c .places, q) (set-padded size z (filter p (take i l)) n (getD l i d) (sym (c .count)) (omega arith));
         }
 
+    -- this one does not
     pub retain-no : (d : A) → p (getD l i d) ≡ false → i < length l → Retained size z l (i + 1) n out
     retain-no d e h =
         let q = filter-no l i d h e in
         let f = c .few in
         record { few = omega arith; count = rw q (c .count); places = rw q (c .places) }
 
+    -- after k turns
     pub retain-end : (k : ℕ) → i ≡ k → (n ≡ length (filter p (take k l))) × (out ≡ padded size z (filter p (take k l)))
     retain-end k e = (rw e at (c .count), rw e at (c .places))
 
@@ -166,6 +176,7 @@ abbrev spliced : {A : Type 0} → ℕ → ℕ → A → List A → List A
 spliced at from a xs = take at xs ++ a ∷ drop from xs
 
 module _ {A : Type 0} (at from : ℕ) (a : A) (xs : List A) (p : at ≤ from) (q : from ≤ length xs) where
+  -- how many there are then
   pub length-spliced : length (spliced at from a xs) ≡ at + 1 + (length xs - from)
   length-spliced = simp (length-append, length-drop, length-take-le at xs (omega arith)) (omega arith)
 
@@ -189,6 +200,7 @@ module _ {A : Type 0} (n : ℕ) (z : A) (at from : ℕ) (a : A) (l : List A) (k 
   within : from ≤ length (take k l)
   within = omega (arith, length-take-le k l few)
 
+  -- how many there are then
   pub spliced-length : length (spliced at from a (take k l)) ≡ at + 1 + (k - from)
   spliced-length = length-spliced at from a (take k l) p within ∙ ap (λ (i : ℕ). at + 1 + (i - from)) (length-take-le k l few)
 
@@ -198,18 +210,140 @@ module _ {A : Type 0} (n : ℕ) (z : A) (at from : ℕ) (a : A) (l : List A) (k 
       rw (o, e, take-more (spliced at from a (take k l)) j d (omega arith))
       (set-padded n z (take j (spliced at from a (take k l))) j (getD (spliced at from a (take k l)) j d) (length-take-le j (spliced at from a (take k l)) (omega arith)) (omega arith))
 
+  -- an element before the new one
   pub splice-before : (d : A) → j < at → set out j (getD l j d) ≡ padded n z (take (j + 1) (spliced at from a (take k l)))
   splice-before d h =
       splice-turn (getD l j d) d (sym (spliced-before at from a (take k l) p within j d h ∙ getD-take k l j d (omega arith))) (omega arith)
 
+  -- the new one
   pub splice-here : j ≡ at → set out j a ≡ padded n z (take (j + 1) (spliced at from a (take k l)))
   splice-here e =
       splice-turn a a (sym (ap (λ (i : ℕ). getD (spliced at from a (take k l)) i a) e ∙ spliced-here at from a (take k l) p within a)) (omega arith)
 
+  -- an element after it
   pub splice-after : (d : A) → at < j → j < at + 1 + (k - from) → set out j (getD l (from + (j - at - 1)) d) ≡ padded n z (take (j + 1) (spliced at from a (take k l)))
   splice-after d h m =
       splice-turn (getD l (from + (j - at - 1)) d) d
       (sym (spliced-after at from a (take k l) p within j d h ∙ getD-take k l (from + (j - at - 1)) d (omega arith))) m
 
+  -- after the last turn
   pub splice-end : at + 1 + (k - from) ≤ j → out ≡ padded n z (spliced at from a (take k l))
   splice-end h = let m = spliced-length in o ∙ ap (padded n z) (take-all j (spliced at from a (take k l)) (omega arith))
+
+-- ===== these elements, and what stood in the places after them =====
+
+abbrev overwritten : {A : Type 0} → List A → List A → List A
+overwritten xs l = xs ++ drop (length xs) l
+
+-- ===== a loop that moves those from place `at` on one place further, from the last on down; it has come to place j =====
+
+module _ {A : Type 0} (a : A) (xs : List A) (count : ℕ) where
+  -- with a put at place j
+  abbrev shifted : ℕ → List A
+  shifted j = take j xs ++ a ∷ (drop j (take count xs) ++ drop (count + 1) xs)
+
+  -- where the loop stands
+  pub record Opened (j : ℕ) (out : List A) : Type 0 where
+    pub long : length out ≡ length xs
+    pub below : take j out ≡ take j xs
+    pub opened : set out j a ≡ shifted j
+
+module _ {A : Type 0} (a : A) (xs : List A) (count : ℕ) (room : count < length xs) where
+  -- before the first turn
+  pub open-start : Opened a xs count count xs
+  open-start =
+      let l : length (take count xs) ≤ count = omega (arith, length-take-le count xs (omega arith)) in
+      record { long = refl; below = refl; opened = rw (set-split xs count a room, drop-of-length-le (take count xs) {i = count} l, add-one count) }
+
+  module _ (j : ℕ) (out : List A) (o : Opened a xs count j out) where
+    -- one element moves
+    pub open-next : (d : A) → 0 < j → j ≤ count → Opened a xs count (j - 1) (set out j (getD out (j - 1) d))
+    open-next d p h =
+        let m : length (take j xs) ≡ j = length-take-le j xs (omega arith) in
+        let n : length (take (j - 1) xs) ≡ j - 1 = length-take-le (j - 1) xs (omega arith) in
+        let k : length (take count xs) ≡ count = length-take-le count xs (omega arith) in
+        let i : j ≡ j - 1 + 1 = omega arith in
+        let i′ : j ≡ suc (j - 1) = omega arith in
+        let v : getD out (j - 1) d ≡ getD xs (j - 1) d =
+        sym (getD-take j out (j - 1) d (omega arith)) ∙ ap (λ (l : List A). getD l (j - 1) d) (o .below) ∙ getD-take j xs (j - 1) d (omega arith) in
+        let t : take j xs ≡ take (j - 1) xs ++ (getD xs (j - 1) d ∷ []) = ap (λ (q : ℕ). take q xs) i ∙ take-more xs (j - 1) d (omega arith) in
+        let r : drop (j - 1) (take count xs) ≡ getD xs (j - 1) d ∷ drop j (take count xs) =
+        drop-cons (take count xs) (j - 1) d (omega arith) ∙ ap₂ _∷_ (getD-take count xs (j - 1) d (omega arith)) (ap (λ (q : ℕ). drop q (take count xs)) (sym i′)) in
+        let w : set out j (getD out (j - 1) d) ≡ take j xs ++ getD xs (j - 1) d ∷ (drop j (take count xs) ++ drop (count + 1) xs) =
+        sym (set-set out j a (getD out (j - 1) d)) ∙ ap (λ (l : List A). set l j (getD out (j - 1) d)) (o .opened)
+        ∙ set-at (take j xs) a (drop j (take count xs) ++ drop (count + 1) xs) (getD out (j - 1) d) j m
+        ∙ ap (λ (x : A). take j xs ++ x ∷ (drop j (take count xs) ++ drop (count + 1) xs)) v in
+        record {
+          long = length-set out j (getD out (j - 1) d) ∙ o .long;
+          below =
+              take-set-le (j - 1) out j (getD out (j - 1) d) (omega arith) ∙ sym (take-take (j - 1) j out (omega arith)) ∙ ap (take (j - 1)) (o .below)
+              ∙ take-take (j - 1) j xs (omega arith);
+          opened =
+              rw (w, t, append-assoc, r)
+              (set-at (take (j - 1) xs) (getD xs (j - 1) d) (getD xs (j - 1) d ∷ (drop j (take count xs) ++ drop (count + 1) xs)) a (j - 1) n);
+        }
+
+    -- then the element is put at its place
+    pub open-end : j ≤ count → set out j a ≡ overwritten (spliced j j a (take count xs)) xs
+    open-end h =
+        let k : length (take count xs) ≡ count = length-take-le count xs (omega arith) in
+        let l : length (spliced j j a (take count xs)) ≡ count + 1 = length-spliced j j a (take count xs) (omega arith) (omega arith) ∙ omega arith in
+        o .opened ∙ rw (l, append-assoc, take-take j count xs h)
+
+  -- how many there are then
+  pub inserted-length : (j : ℕ) → j ≤ count → count + 1 ≡ length (spliced j j a (take count xs))
+  inserted-length j h =
+      let k : length (take count xs) ≡ count = length-take-le count xs (omega arith) in
+      omega (arith, length-spliced j j a (take count xs) (omega arith) (omega arith))
+
+-- one that is replaced where it stands
+module _ {A : Type 0} (a : A) (xs : List A) (count : ℕ) (few : count ≤ length xs) (k : ℕ) (h : k < count) where
+  listed : length (take count xs) ≡ count
+  listed = length-take-le count xs few
+
+  -- as many as before
+  pub replaced-length : count ≡ length (spliced k (k + 1) a (take count xs))
+  replaced-length = let l = listed in omega (arith, length-spliced k (k + 1) a (take count xs) (omega arith) (omega arith))
+
+  -- the others stay
+  pub set-replaces : set xs k a ≡ overwritten (spliced k (k + 1) a (take count xs)) xs
+  set-replaces =
+      let l = listed in
+      let e : drop (k + 1) (take count xs) ++ drop count xs ≡ drop (k + 1) xs =
+      sym (drop-append-le (k + 1) (take count xs) (drop count xs) (omega arith)) ∙ ap (drop (k + 1)) (take-append-drop count xs) in
+      rw (← replaced-length, append-assoc, e, take-take k count xs (omega arith), add-one k) (set-split xs k a (omega arith))
+
+-- ===== over an array with zeros after its list =====
+
+module _ {A : Type 0} where
+  drop-replicate : (k m : ℕ) (z : A) → drop k (replicate m z) ≡ replicate (m - k) z
+  drop-replicate zero m z = let e : m - 0 ≡ m = omega arith in rw e
+  drop-replicate (suc k) zero z = let e : 0 - suc k ≡ 0 = omega arith in rw e
+  drop-replicate (suc k) (suc m) z = let e : suc m - suc k ≡ m - k = omega arith in rw e (drop-replicate k m z)
+
+  -- a list that is no shorter: zeros stand after it
+  pub overwritten-padded : (n : ℕ) (z : A) (xs ys : List A) → length ys ≤ length xs → overwritten xs (padded n z ys) ≡ padded n z xs
+  unfolding padded
+  overwritten-padded n z xs ys h =
+      let k : length xs ≡ length ys + (length xs - length ys) = omega arith in
+      let m : n - length ys - (length xs - length ys) ≡ n - length xs = omega arith in
+      let e : drop (length xs) (ys ++ replicate (n - length ys) z) ≡ replicate (n - length xs) z =
+      ap (λ (i : ℕ). drop i (ys ++ replicate (n - length ys) z)) k ∙ drop-append-add ys (replicate (n - length ys) z) (length xs - length ys)
+      ∙ drop-replicate (length xs - length ys) (n - length ys) z ∙ ap (λ (i : ℕ). replicate i z) m in
+      ap (λ (l : List A). xs ++ l) e
+
+  -- put makes no list shorter
+  pub put-longer : (lt : A → A → Bool) (a : A) (xs : List A) → length xs ≤ length (put lt a xs)
+  put-longer lt a [] = omega arith
+  put-longer lt a (x ∷ xs) =
+      let ih = put-longer lt a xs in
+      on (lt a x) (λ t. rw t (omega arith)) (λ t. rw t (on (lt x a) (λ u. rw u (omega arith)) (λ u. rw u (omega arith))))
+
+module _ {A B : Type 0} (f : A → B) where
+  -- into a list that is made of another
+  pub put-each : (lt : A → A → Bool) (lt′ : B → B → Bool) → ((x y : A) → lt′ (f x) (f y) ≡ lt x y) → (a : A) (xs : List A) → put lt′ (f a) (each f xs) ≡ each f (put lt a xs)
+  put-each lt lt′ h a [] = refl
+  put-each lt lt′ h a (x ∷ xs) =
+      let ih = put-each lt lt′ h a xs in
+      rw (h a x, h x a)
+      (on (lt a x) (λ t. rw t) (λ t. rw t (on (lt x a) (λ u. rw u (ap (λ (r : List B). f x ∷ r) ih)) (λ u. rw u))))

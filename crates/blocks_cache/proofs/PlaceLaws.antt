@@ -1,24 +1,23 @@
--- A place in a list, over any element type: one turn of a search, and that an element is put at the place that is found.
+-- A place in a list, over any element type: one turn of a search; an element is put at the place that is found, and what is the same stands there.
 -- Assumes nothing.
 use mathlib.Core.Bool.{Bool, false, not, true}
-use mathlib.Core.List.{List, [], _++_, _∷_, append-assoc}
+use mathlib.Core.List.{List, [], _∷_}
 use mathlib.Core.Option.{Option, none, some}
-use mathlib.Core.Path.{_∙_, _≡_, ap, ap₂, refl, sym}
-use Prim.Native.Nat.{_+_, _-_, _<_, _≤_, suc, suc-le-suc, zero, ℕ}
+use mathlib.Core.Path.{_∙_, _≡_, ap, refl}
+use Prim.Native.Nat.{_+_, _<_, _≤_, suc, suc-le-suc, ℕ}
 use native.Mathlib.Numerals.{add-one}
 use native.Mathlib.Omega.{arith}
 use borrow.Author.Tests.{le-leb, lt-leb}
 use lib.Dec.{leb}
-use lib.ListN.{drop, drop-of-length-le, getD, length, length-set, replicate, set, take, take-append-drop}
-use lib.Seq.{drop-append-add, drop-append-le, drop-cons, getD-take, length-take-le, set-at, set-set, set-split, take-set-le, take-take}
+use lib.ListN.{getD, length, take}
 use Rattle.blocks_cache.specs.declared.place.Place.{Place}
 use Rattle.blocks_cache.specs.declared.place.Place.the-variants.{At as place-at, Vacant as place-vacant}
 use Rattle.block_records.proofs.ArrayLaws.{left-more, left-passed, length-spliced}
 use Rattle.block_records.proofs.ListLaws.{all-weaken}
-use Rattle.block_records.proofs.LoopLaws.{left, left-start, take-more}
+use Rattle.block_records.proofs.LoopLaws.{left, left-start}
 use Rattle.block_records.proofs.Tests.{and-left, and-right, not-true, on}
-use Rattle.block_records.specs.Lists.{all, each, find, padded, put, rising}
-use Rattle.blocks_cache.specs.Places.{Splices, overwritten, place, place-from, spliced}
+use Rattle.block_records.specs.Lists.{all, each, find, put, rising}
+use Rattle.blocks_cache.specs.Places.{Splices, place, place-from, spliced}
 
 -- ===== one turn of a search, at place i of the first `count` =====
 
@@ -127,79 +126,6 @@ module _ {A : Type 0} (size : ℕ) (a : A) (xs : List A) (few : length xs ≤ si
   pub inserted-many : k ≤ length xs → size ≤ length xs → leb (length (spliced k k a xs)) size ≡ false
   inserted-many h l = lt-leb (length (spliced k k a xs)) size (omega (arith, length-spliced k k a xs (omega arith) h))
 
--- ===== a loop that moves those from place `at` on one place further, from the last on down; it has come to place j =====
-
-module _ {A : Type 0} (a : A) (xs : List A) (count : ℕ) where
-  -- with a put at place j
-  abbrev shifted : ℕ → List A
-  shifted j = take j xs ++ a ∷ (drop j (take count xs) ++ drop (count + 1) xs)
-
-  -- where the loop stands
-  pub record Opened (j : ℕ) (out : List A) : Type 0 where
-    pub long : length out ≡ length xs
-    pub below : take j out ≡ take j xs
-    pub opened : set out j a ≡ shifted j
-
-module _ {A : Type 0} (a : A) (xs : List A) (count : ℕ) (room : count < length xs) where
-  pub open-start : Opened a xs count count xs
-  open-start =
-      let l : length (take count xs) ≤ count = omega (arith, length-take-le count xs (omega arith)) in
-      record { long = refl; below = refl; opened = rw (set-split xs count a room, drop-of-length-le (take count xs) {i = count} l, add-one count) }
-
-  module _ (j : ℕ) (out : List A) (o : Opened a xs count j out) where
-    pub open-next : (d : A) → 0 < j → j ≤ count → Opened a xs count (j - 1) (set out j (getD out (j - 1) d))
-    open-next d p h =
-        let m : length (take j xs) ≡ j = length-take-le j xs (omega arith) in
-        let n : length (take (j - 1) xs) ≡ j - 1 = length-take-le (j - 1) xs (omega arith) in
-        let k : length (take count xs) ≡ count = length-take-le count xs (omega arith) in
-        let i : j ≡ j - 1 + 1 = omega arith in
-        let i′ : j ≡ suc (j - 1) = omega arith in
-        let v : getD out (j - 1) d ≡ getD xs (j - 1) d =
-        sym (getD-take j out (j - 1) d (omega arith)) ∙ ap (λ (l : List A). getD l (j - 1) d) (o .below) ∙ getD-take j xs (j - 1) d (omega arith) in
-        let t : take j xs ≡ take (j - 1) xs ++ (getD xs (j - 1) d ∷ []) = ap (λ (q : ℕ). take q xs) i ∙ take-more xs (j - 1) d (omega arith) in
-        let r : drop (j - 1) (take count xs) ≡ getD xs (j - 1) d ∷ drop j (take count xs) =
-        drop-cons (take count xs) (j - 1) d (omega arith) ∙ ap₂ _∷_ (getD-take count xs (j - 1) d (omega arith)) (ap (λ (q : ℕ). drop q (take count xs)) (sym i′)) in
-        let w : set out j (getD out (j - 1) d) ≡ take j xs ++ getD xs (j - 1) d ∷ (drop j (take count xs) ++ drop (count + 1) xs) =
-        sym (set-set out j a (getD out (j - 1) d)) ∙ ap (λ (l : List A). set l j (getD out (j - 1) d)) (o .opened)
-        ∙ set-at (take j xs) a (drop j (take count xs) ++ drop (count + 1) xs) (getD out (j - 1) d) j m
-        ∙ ap (λ (x : A). take j xs ++ x ∷ (drop j (take count xs) ++ drop (count + 1) xs)) v in
-        record {
-          long = length-set out j (getD out (j - 1) d) ∙ o .long;
-          below =
-              take-set-le (j - 1) out j (getD out (j - 1) d) (omega arith) ∙ sym (take-take (j - 1) j out (omega arith)) ∙ ap (take (j - 1)) (o .below)
-              ∙ take-take (j - 1) j xs (omega arith);
-          opened =
-              rw (w, t, append-assoc, r)
-              (set-at (take (j - 1) xs) (getD xs (j - 1) d) (getD xs (j - 1) d ∷ (drop j (take count xs) ++ drop (count + 1) xs)) a (j - 1) n);
-        }
-
-    -- then the element is put at its place
-    pub open-end : j ≤ count → set out j a ≡ overwritten (spliced j j a (take count xs)) xs
-    open-end h =
-        let k : length (take count xs) ≡ count = length-take-le count xs (omega arith) in
-        let l : length (spliced j j a (take count xs)) ≡ count + 1 = length-spliced j j a (take count xs) (omega arith) (omega arith) ∙ omega arith in
-        o .opened ∙ rw (l, append-assoc, take-take j count xs h)
-
-  pub inserted-length : (j : ℕ) → j ≤ count → count + 1 ≡ length (spliced j j a (take count xs))
-  inserted-length j h =
-      let k : length (take count xs) ≡ count = length-take-le count xs (omega arith) in
-      omega (arith, length-spliced j j a (take count xs) (omega arith) (omega arith))
-
--- one that is replaced where it stands
-module _ {A : Type 0} (a : A) (xs : List A) (count : ℕ) (few : count ≤ length xs) (k : ℕ) (h : k < count) where
-  listed : length (take count xs) ≡ count
-  listed = length-take-le count xs few
-
-  pub replaced-length : count ≡ length (spliced k (k + 1) a (take count xs))
-  replaced-length = let l = listed in omega (arith, length-spliced k (k + 1) a (take count xs) (omega arith) (omega arith))
-
-  pub set-replaces : set xs k a ≡ overwritten (spliced k (k + 1) a (take count xs)) xs
-  set-replaces =
-      let l = listed in
-      let e : drop (k + 1) (take count xs) ++ drop count xs ≡ drop (k + 1) xs =
-      sym (drop-append-le (k + 1) (take count xs) (drop count xs) (omega arith)) ∙ ap (drop (k + 1)) (take-append-drop count xs) in
-      rw (← replaced-length, append-assoc, e, take-take k count xs (omega arith), add-one k) (set-split xs k a (omega arith))
-
 -- ===== what stands at the place that is found =====
 
 module _ {A : Type 0} (below same : A → Bool) where
@@ -246,34 +172,3 @@ module _ {A B : Type 0} (f : A → B) where
   pub place-each : (below same : B → Bool) (xs : List A) → place below same (each f xs) ≡ place (λ (x : A). below (f x)) (λ (x : A). same (f x)) xs
   unfolding place
   place-each below same xs = each-from below same 0 xs
-
-  pub put-each : (lt : A → A → Bool) (lt′ : B → B → Bool) → ((x y : A) → lt′ (f x) (f y) ≡ lt x y) → (a : A) (xs : List A) → put lt′ (f a) (each f xs) ≡ each f (put lt a xs)
-  put-each lt lt′ h a [] = refl
-  put-each lt lt′ h a (x ∷ xs) =
-      let ih = put-each lt lt′ h a xs in
-      rw (h a x, h x a)
-      (on (lt a x) (λ t. rw t) (λ t. rw t (on (lt x a) (λ u. rw u (ap (λ (r : List B). f x ∷ r) ih)) (λ u. rw u))))
-
--- ===== over an array with zeros after its list =====
-
-module _ {A : Type 0} where
-  drop-replicate : (k m : ℕ) (z : A) → drop k (replicate m z) ≡ replicate (m - k) z
-  drop-replicate zero m z = let e : m - 0 ≡ m = omega arith in rw e
-  drop-replicate (suc k) zero z = let e : 0 - suc k ≡ 0 = omega arith in rw e
-  drop-replicate (suc k) (suc m) z = let e : suc m - suc k ≡ m - k = omega arith in rw e (drop-replicate k m z)
-
-  pub overwritten-padded : (n : ℕ) (z : A) (xs ys : List A) → length ys ≤ length xs → overwritten xs (padded n z ys) ≡ padded n z xs
-  unfolding padded
-  overwritten-padded n z xs ys h =
-      let k : length xs ≡ length ys + (length xs - length ys) = omega arith in
-      let m : n - length ys - (length xs - length ys) ≡ n - length xs = omega arith in
-      let e : drop (length xs) (ys ++ replicate (n - length ys) z) ≡ replicate (n - length xs) z =
-      ap (λ (i : ℕ). drop i (ys ++ replicate (n - length ys) z)) k ∙ drop-append-add ys (replicate (n - length ys) z) (length xs - length ys)
-      ∙ drop-replicate (length xs - length ys) (n - length ys) z ∙ ap (λ (i : ℕ). replicate i z) m in
-      ap (λ (l : List A). xs ++ l) e
-
-  pub put-longer : (lt : A → A → Bool) (a : A) (xs : List A) → length xs ≤ length (put lt a xs)
-  put-longer lt a [] = omega arith
-  put-longer lt a (x ∷ xs) =
-      let ih = put-longer lt a xs in
-      on (lt a x) (λ t. rw t (omega arith)) (λ t. rw t (on (lt x a) (λ u. rw u (omega arith)) (λ u. rw u (omega arith))))

@@ -13,14 +13,14 @@ use Rattle.blocks_cache.specs.declared.cache.ShardGroup.{ShardGroup}
 use Rattle.blocks_cache.specs.declared.place.Place.{Place}
 use Rattle.blocks_cache.specs.declared.place.Place.the-variants.{At as place-at, Vacant as place-vacant}
 use Rattle.blocks_cache.specs.declared.shards.Shards.{Shards}
-use Rattle.block_records.proofs.ArrayLaws.{few-listed, length-within, take-within, within-few}
+use Rattle.block_records.proofs.ArrayLaws.{few-listed, length-within, overwritten-padded, put-each, put-longer, replaced-length, set-replaces, take-within, within-few}
 use Rattle.block_records.proofs.BlockIdLaws.{shard-order}
 use Rattle.block_records.proofs.ListLaws.{length-each}
 use Rattle.block_records.proofs.OrderLaws.{asym, differs, less-not-same}
 use Rattle.block_records.proofs.Tests.{clash, on}
 use Rattle.block_records.specs.BlockIds.{less-shard, same-shard}
 use Rattle.block_records.specs.Lists.{each, padded, put, rising}
-use Rattle.blocks_cache.proofs.PlaceLaws.{at-place, at-within, inserted-few, inserted-many, overwritten-padded, place-each, place-finds, put-each, put-inserts, put-longer, put-replaces, replaced-few, replaced-length, set-replaces, vacant-within}
+use Rattle.blocks_cache.proofs.PlaceLaws.{at-place, at-within, inserted-few, inserted-many, place-each, place-finds, put-inserts, put-replaces, replaced-few, vacant-within}
 use Rattle.blocks_cache.specs.CacheLayout.{pack, pack-shard, shard-group-before, zero-shard-group}
 use Rattle.blocks_cache.specs.Model.{Model, ShardModel, find-shard, is-shard, shard-before}
 use Rattle.blocks_cache.specs.Places.{overwritten, place, spliced}

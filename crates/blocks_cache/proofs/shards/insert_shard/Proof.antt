@@ -6,7 +6,7 @@ use native.Mathlib.Omega.{arith}
 use borrow.Author.Needs.{needs}
 use lib.ListN.{length, length-set}
 use Rattle.block_records.proofs.LoopLaws.{length-mapped}
-use Rattle.blocks_cache.proofs.PlaceLaws.{Opened, inserted-length, open-end, open-next, open-start}
+use Rattle.block_records.proofs.ArrayLaws.{Opened, inserted-length, open-end, open-next, open-start}
 use Rattle.blocks_cache.proofs.shards.insert_shard.Statement.{statement}
 use Rattle.blocks_cache.proofs.shards.insert_shard.Tie as tie
 
