@@ -51,7 +51,7 @@ ids-filter q ids h =
 abbrev at-id : ℕ → BlockId → Bool
 at-id n j = eqb (j .seqno) n
 
-ids-length : (i : BlockId) (o : Option BlockId) (ids : List BlockId) → IdsOk ids → find (at-id (i .seqno)) ids ≡ o →
+pub ids-length : (i : BlockId) (o : Option BlockId) (ids : List BlockId) → IdsOk ids → find (at-id (i .seqno)) ids ≡ o →
     present o || ltb (length ids) 32 ≡ true → length (put id-before i ids) ≤ 32
 ids-length i none ids h f room = omega (arith, length-put id-before i ids, ltb-true (length ids) 32 room)
 ids-length i (some x) ids h f room =

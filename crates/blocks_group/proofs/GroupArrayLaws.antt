@@ -17,13 +17,13 @@ use Rattle.blocks_group.specs.declared.group.Group.{Group}
 use Rattle.blocks_group.specs.declared.group.MasterGroup.{MasterGroup}
 use Rattle.blocks_group.specs.declared.group.Retained.{Retained}
 use Rattle.blocks_group.specs.declared.group.Retained.the-variants.{AllBut as retain-but, From as retain-from, UpToOrReceived as retain-up-to}
+use Rattle.block_records.proofs.ArrayLaws.{each-each, each-filter, each-put}
 use Rattle.block_records.proofs.ListLaws.{by-number, length-each, rising-each, rising-filter, rising-put}
 use Rattle.block_records.proofs.Tests.{on}
 use Rattle.block_records.specs.Entries.{Entry, is-received}
 use Rattle.block_records.specs.EntryLayout.{entry-tops, pack-entry, pack-master}
 use Rattle.block_records.specs.Lists.{each, filter, padded, pick, put, rising}
 use Rattle.block_records.specs.Zeros.{zero-entry, zero-master, zero-tops}
-use Rattle.blocks_group.proofs.ArrayLaws.{each-each, each-filter, each-put}
 use Rattle.blocks_group.proofs.GroupLaws.{at-without-same, entry-seqno}
 use Rattle.blocks_group.proofs.GroupLayoutLaws.{take-padded-each}
 use Rattle.blocks_group.proofs.LookupLaws.{find-each, find-put-other, find-put-same, find-retained, if-passes, place-finds}

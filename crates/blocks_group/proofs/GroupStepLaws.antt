@@ -17,13 +17,14 @@ use Rattle.blocks_group.specs.declared.group.MasterGroup.{MasterGroup}
 use Rattle.blocks_group.specs.declared.group.Retained.{Retained}
 use Rattle.blocks_group.specs.declared.search.Found.{Found}
 use Rattle.blocks_group.specs.declared.search.Found.the-variants.{At as found-at, Vacant as vacant-at}
+use Rattle.block_records.proofs.ArrayLaws.{each-each, each-filter, each-spliced, flagged-filter, flagged-padded, getD-any, length-within, take-length-count, within-few}
 use Rattle.block_records.proofs.ListLaws.{length-each}
 use Rattle.block_records.proofs.Tests.{on}
+use Rattle.block_records.specs.Arrays.{flagged, spliced}
 use Rattle.block_records.specs.Lists.{each, filter, padded}
 use Rattle.block_records.specs.Zeros.{zero-entry, zero-master, zero-tops}
-use Rattle.blocks_group.proofs.ArrayLaws.{each-each, each-filter, each-spliced, flagged-filter, flagged-padded, getD-any, length-within, take-length-count, within-few}
 use Rattle.blocks_group.proofs.PutLaws.{found-fits, place-found-below, put-found, put-vacant, vacant-fits, vacant-full}
-use Rattle.blocks_group.specs.GroupArrays.{beside, entry-at, flagged, listed-entries, listed-masters, listed-seqnos, master-at, master-seqno, put-entry, put-master, record-seqno, retain-entries, retain-masters, retains, spliced, with-masters, with-records}
+use Rattle.blocks_group.specs.GroupArrays.{beside, entry-at, listed-entries, listed-masters, listed-seqnos, master-at, master-seqno, put-entry, put-master, record-seqno, retain-entries, retain-masters, retains, with-masters, with-records}
 use Rattle.blocks_group.specs.Search.{place}
 
 -- ===== a group =====

@@ -12,12 +12,12 @@ use lib.Dec.{eqb, leb, ltb}
 use lib.ListN.{length}
 use Rattle.blocks_group.specs.declared.search.Found.{Found}
 use Rattle.blocks_group.specs.declared.search.Found.the-variants.{At as found-at, Vacant as vacant-at}
+use Rattle.block_records.proofs.ArrayLaws.{length-spliced}
 use Rattle.block_records.proofs.ListLaws.{length-each}
 use Rattle.block_records.proofs.Tests.{on}
+use Rattle.block_records.specs.Arrays.{Splices, spliced}
 use Rattle.block_records.specs.Lists.{each, put}
-use Rattle.blocks_group.proofs.ArrayLaws.{length-spliced}
 use Rattle.blocks_group.proofs.SearchLaws.{next-place, place-cons}
-use Rattle.blocks_group.specs.GroupArrays.{Splices, spliced}
 use Rattle.blocks_group.specs.Search.{place}
 
 -- a place within a list of n

@@ -13,9 +13,9 @@ use lib.ListN.{drop, drop-of-length-le, getD, length}
 use lib.Seq.{drop-cons}
 use Rattle.blocks_group.specs.declared.search.Found.{Found}
 use Rattle.blocks_group.specs.declared.search.Found.the-variants.{At as found-at, Vacant as vacant-at}
+use Rattle.block_records.proofs.ArrayLaws.{all-getD}
 use Rattle.block_records.proofs.Tests.{and-left, and-right, on}
 use Rattle.block_records.specs.Lists.{all, pick, rising}
-use Rattle.blocks_group.proofs.ArrayLaws.{all-getD}
 use Rattle.blocks_group.specs.Search.{IsPlace, place, place-from}
 
 -- ===== one turn of a search that goes up, at place i; d is what a read past the end would give =====

@@ -2,11 +2,11 @@
 -- On a packed group this is the rule of the model, packed (proofs/GroupArrayLaws).
 -- Assumes nothing.
 use mathlib.Core.Bool.{Bool, _||_, not}
-use mathlib.Core.List.{List, [], _++_, _∷_}
+use mathlib.Core.List.{List, [], _∷_}
 use mathlib.Core.Option.{Option, none, some}
-use Prim.Native.Nat.{_+_, _-_, _≤_, ℕ}
+use Prim.Native.Nat.{ℕ}
 use lib.Dec.{eqb, leb, ltb}
-use lib.ListN.{drop, getD, length, take}
+use lib.ListN.{getD, length, take}
 use Rattle.block_records.specs.declared.block_id.BlockIdShort.{BlockIdShort}
 use Rattle.block_records.specs.declared.entry.BlockCacheEntry.{BlockCacheEntry}
 use Rattle.block_records.specs.declared.entry.MasterBlock.{MasterBlock}
@@ -151,19 +151,3 @@ set-master-boundary k g = record { group = set-group-boundary k (g .group); tops
 -- the number of places below a count
 abbrev pub listed-count : ℕ → ℕ
 listed-count n = pick (ltb n 16) n 16
-
--- the first `at` elements, a, and those of place `from` on
-abbrev pub spliced : {A : Type 0} → ℕ → ℕ → A → List A → List A
-spliced at from a xs = take at xs ++ a ∷ drop from xs
-
--- what that asks of n elements in an array of so many places
-pub record Splices (places at from n : ℕ) : Type 0 where
-  pub order : at ≤ from
-  pub within : from ≤ n
-  pub room : at + 1 + (n - from) ≤ places
-
--- the elements beside which a flag is set
-abbrev pub flagged : {A : Type 0} → List Bool → List A → List A
-flagged [] xs = []
-flagged (k ∷ ks) [] = []
-flagged (k ∷ ks) (x ∷ xs) = pick k (x ∷ flagged ks xs) (flagged ks xs)

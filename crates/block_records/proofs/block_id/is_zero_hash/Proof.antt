@@ -7,10 +7,10 @@ use native.Mathlib.Omega.{arith}
 use borrow.Author.Needs.{needs}
 use lib.Dec.{eqb}
 use lib.ListN.{length, take, getD}
+use Rattle.block_records.proofs.LoopLaws.{flag-end, flag-next}
+use Rattle.block_records.proofs.TidyLaws.{same-replicate}
 use Rattle.block_records.specs.Lists.{all}
 use Rattle.block_records.specs.Zeros.{zero-hash}
-use Rattle.block_records.proofs.LoopLaws.{flag-next, flag-end}
-use Rattle.block_records.proofs.TidyLaws.{same-replicate}
 use Rattle.block_records.proofs.block_id.is_zero_hash.Statement.{statement}
 use Rattle.block_records.proofs.block_id.is_zero_hash.Tie as tie
 

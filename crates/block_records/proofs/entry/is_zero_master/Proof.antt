@@ -1,6 +1,6 @@
 -- Assumes nothing.
-use Rattle.block_records.specs.Zeros.{zero-master}
 use Rattle.block_records.specs.Equality.{same-master}
+use Rattle.block_records.specs.Zeros.{zero-master}
 use borrow.Author.Needs.{needs}
 use Rattle.block_records.proofs.entry.is_zero_master.Statement.{statement}
 use Rattle.block_records.proofs.entry.is_zero_master.Tie as tie

@@ -7,10 +7,10 @@ use native.Mathlib.Omega.{arith}
 use borrow.Author.Needs.{needs}
 use borrow.Author.Tests.{not-true, not-false}
 use lib.ListN.{length, take}
+use Rattle.block_records.proofs.LoopLaws.{count-end, count-next, count-passed, count-stop, left, length-mapped}
 use Rattle.block_records.specs.Lists.{all}
 use Rattle.block_records.specs.Questions.{key-fits}
 use Rattle.block_records.specs.Zeros.{zero-key}
-use Rattle.block_records.proofs.LoopLaws.{left, count-next, count-stop, count-passed, count-end, length-mapped}
 use Rattle.block_records.proofs.questions.keys_fit.Statement.{statement}
 use Rattle.block_records.proofs.questions.keys_fit.Tie as tie
 

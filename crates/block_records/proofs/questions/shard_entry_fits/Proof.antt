@@ -1,10 +1,10 @@
 -- Assumes nothing.
-use Rattle.block_records.specs.Zeros.{zero-tops}
-use lib.Dec.{leb}
+use Rattle.block_records.proofs.QuestionLaws.{held-fits-shard}
 use Rattle.block_records.specs.BlockIds.{id-shard, is-masterchain, listed-prev-ids}
 use Rattle.block_records.specs.Lists.{all}
 use Rattle.block_records.specs.Questions.{held-fits, id-fits, previous-fits, seqno-fits}
-use Rattle.block_records.proofs.QuestionLaws.{held-fits-shard}
+use Rattle.block_records.specs.Zeros.{zero-tops}
+use lib.Dec.{leb}
 use borrow.Author.Needs.{needs}
 use Rattle.block_records.proofs.questions.shard_entry_fits.Statement.{statement}
 use Rattle.block_records.proofs.questions.shard_entry_fits.Tie as tie

@@ -1,6 +1,6 @@
 -- Assumes nothing.
-use Rattle.block_records.specs.Zeros.{zero-candidate}
 use Rattle.block_records.specs.Equality.{same-candidate}
+use Rattle.block_records.specs.Zeros.{zero-candidate}
 use borrow.Author.Needs.{needs}
 use Rattle.block_records.proofs.store_records.is_zero_candidate.Statement.{statement}
 use Rattle.block_records.proofs.store_records.is_zero_candidate.Tie as tie

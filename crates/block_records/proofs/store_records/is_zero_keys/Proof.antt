@@ -1,8 +1,8 @@
 -- Assumes nothing.
-use Rattle.block_records.proofs.TidyLaws.{same-replicate}
 use Rattle.block_records.proofs.LoopLaws.{length-mapped}
-use Rattle.block_records.specs.Zeros.{zero-key, zero-keys}
+use Rattle.block_records.proofs.TidyLaws.{same-replicate}
 use Rattle.block_records.specs.BlockIds.{same-key}
+use Rattle.block_records.specs.Zeros.{zero-key, zero-keys}
 use lib.ListN.{length}
 use lib.Dec.{eqb}
 use mathlib.Core.Bool.{Bool, _&&_}

@@ -1,6 +1,6 @@
 -- Assumes nothing.
-use Rattle.block_records.specs.Zeros.{zero-received}
 use Rattle.block_records.specs.Equality.{same-received}
+use Rattle.block_records.specs.Zeros.{zero-received}
 use borrow.Author.Needs.{needs}
 use Rattle.block_records.proofs.store_records.is_zero_received.Statement.{statement}
 use Rattle.block_records.proofs.store_records.is_zero_received.Tie as tie

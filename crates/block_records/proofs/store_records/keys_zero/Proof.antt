@@ -6,9 +6,9 @@ use native.Mathlib.Omega.{arith}
 use borrow.Author.Needs.{needs}
 use borrow.Author.Tests.{not-true, not-false}
 use lib.ListN.{length, drop}
+use Rattle.block_records.proofs.LoopLaws.{length-mapped, rest-end, rest-next, rest-stop}
 use Rattle.block_records.specs.Lists.{all}
 use Rattle.block_records.specs.Zeros.{is-zero-key, zero-key}
-use Rattle.block_records.proofs.LoopLaws.{rest-next, rest-stop, rest-end, length-mapped}
 use Rattle.block_records.proofs.store_records.keys_zero.Statement.{statement}
 use Rattle.block_records.proofs.store_records.keys_zero.Tie as tie
 

@@ -5,10 +5,10 @@ use mathlib.Core.Path.{_≡_, sym, _∙_}
 use borrow.Author.Needs.{needs}
 use borrow.Author.Tests.{not-true, not-false}
 use lib.ListN.{length, drop}
-use Rattle.block_records.specs.Lists.{same-list}
+use Rattle.block_records.proofs.LoopLaws.{eq-end, eq-next, eq-stop, length-mapped}
 use Rattle.block_records.specs.BlockIds.{same-id}
+use Rattle.block_records.specs.Lists.{same-list}
 use Rattle.block_records.specs.Zeros.{zero-id}
-use Rattle.block_records.proofs.LoopLaws.{eq-next, eq-stop, eq-end, length-mapped}
 use Rattle.block_records.proofs.store_records.same_ids.Statement.{statement}
 use Rattle.block_records.proofs.store_records.same_ids.Tie as tie
 

@@ -6,9 +6,10 @@ use native.Mathlib.Omega.{arith}
 use borrow.Author.Needs.{needs}
 use lib.ListN.{length, replicate, take}
 use Rattle.block_records.specs.declared.top_block.TopBlock.{TopBlock}
+use Rattle.block_records.proofs.ArrayLaws.{copy-count, copy-end, copy-next}
+use Rattle.block_records.proofs.LoopLaws.{length-mapped, padded-nil}
 use Rattle.block_records.specs.Lists.{padded}
 use Rattle.block_records.specs.Zeros.{zero-top}
-use Rattle.block_records.proofs.LoopLaws.{padded-nil, fill-next, fill-count, fill-end, length-mapped}
 use Rattle.block_records.proofs.top_block.stored_tops.Statement.{statement}
 use Rattle.block_records.proofs.top_block.stored_tops.Tie as tie
 
@@ -32,7 +33,7 @@ returns : tie.Need-returns Inv-loop μ-loop
 returns c =
     let h = c .before .before in
     let s = h .before .before .before in
-    let e = fill-count 8 zero-top (s .args .tops .items) (long s) (h .loop .items) (h .loop .i) (h .loop .inv .1 .1) (s .args .tops .count) (h .loop .inv .0) (h .loop .inv .1 .0) (c .if1 .taken) in
+    let e = copy-count 8 zero-top (s .args .tops .items) (long s) (h .loop .items) (h .loop .i) (h .loop .inv .1 .1) (s .args .tops .count) (h .loop .inv .0) (h .loop .inv .1 .0) (c .if1 .taken) in
     λ j. record { items = e .0 j; count = e .1 j }
 
 mul-item : tie.Need-mul-item Inv-loop μ-loop
@@ -57,13 +58,13 @@ loop-again : tie.Need-loop-again Inv-loop μ-loop
 loop-again c =
     let h = c .before .before .before in
     let s = h .before .before .before in
-    (search needs, (search needs, fill-next 8 zero-top (s .args .tops .items) (long s) (h .loop .items) (h .loop .i) (h .loop .inv .1 .1) _ (omega arith)))
+    (search needs, (search needs, copy-next 8 zero-top (s .args .tops .items) (long s) (h .loop .items) (h .loop .i) (h .loop .inv .1 .1) _ (omega arith)))
 
 returns-2 : tie.Need-returns-2 Inv-loop μ-loop
 returns-2 c =
     let h = c .before in
     let s = h .before .before .before in
-    let e = fill-end 8 zero-top (s .args .tops .items) (long s) (h .loop .items) (h .loop .i) (h .loop .inv .1 .1) (s .args .tops .count) (c .loop-test .left) (omega arith) in
+    let e = copy-end 8 zero-top (s .args .tops .items) (long s) (h .loop .items) (h .loop .i) (h .loop .inv .1 .1) (s .args .tops .count) (c .loop-test .left) (omega arith) in
     λ j. record { items = e .0 j; count = e .1 j }
 
 pub stored-tops-spec : {M : Type 1} → statement M

@@ -6,11 +6,11 @@ use native.Mathlib.Omega.{arith}
 use borrow.Author.Needs.{needs}
 use lib.ListN.{length, length-set, take}
 use lib.Seq.{length-take-le}
-use Rattle.block_records.proofs.LoopLaws.{length-mapped}
+use Rattle.block_records.proofs.ArrayLaws.{each-end, each-next, length-each-take, take-padded-at, take-within, within-few}
+use Rattle.block_records.proofs.LoopLaws.{length-mapped, padded-nil}
 use Rattle.block_records.specs.Lists.{each, padded}
 use Rattle.blocks_group.specs.Search.{place}
 use Rattle.blocks_group.specs.GroupArrays.{record-seqno}
-use Rattle.blocks_group.proofs.ArrayLaws.{each-end, each-next, length-each-take, padded-nil, take-padded-at, take-within, within-few}
 use Rattle.blocks_group.proofs.group.find.Statement.{statement}
 use Rattle.blocks_group.proofs.group.find.Tie as tie
 

@@ -5,11 +5,12 @@ use mathlib.Core.Logic.{⊎-elim}
 use Prim.Native.Nat.{_-_, ℕ}
 use native.Mathlib.Omega.{arith}
 use lib.ListN.{length, take}
+use Rattle.block_records.proofs.ArrayLaws.{Splicing, splice-after, splice-before, splice-end, splice-here, splice-start, take-within}
 use Rattle.block_records.proofs.LoopLaws.{length-mapped}
-use Rattle.block_records.specs.Zeros.{zero-entry}
+use Rattle.block_records.specs.Arrays.{Splices, spliced}
 use Rattle.block_records.specs.Lists.{padded}
-use Rattle.blocks_group.specs.GroupArrays.{Splices, listed-count, spliced}
-use Rattle.blocks_group.proofs.ArrayLaws.{Splicing, splice-after, splice-before, splice-end, splice-here, splice-start, take-within}
+use Rattle.block_records.specs.Zeros.{zero-entry}
+use Rattle.blocks_group.specs.GroupArrays.{listed-count}
 use borrow.Author.Needs.{needs}
 use Rattle.blocks_group.proofs.group.put_entry_at.Statement.{statement}
 use Rattle.blocks_group.proofs.group.put_entry_at.Tie as tie

@@ -4,7 +4,7 @@ use mathlib.Core.Path.{_≡_, subst, sym}
 use Prim.Native.Nat.{ℕ}
 use lib.ListN.{length}
 use Rattle.block_records.proofs.LoopLaws.{length-mapped}
-use Rattle.blocks_group.specs.GroupArrays.{Splices}
+use Rattle.block_records.specs.Arrays.{Splices}
 use Rattle.blocks_group.proofs.GroupStepLaws.{splice-masters, tops-length}
 use borrow.Author.Needs.{needs}
 use Rattle.blocks_group.proofs.group.put_master_at.Statement.{statement}

@@ -3,9 +3,10 @@
 use mathlib.Core.Path.{_∙_, _≡_, ap}
 use lib.ListN.{length}
 use Rattle.block_records.proofs.LoopLaws.{length-mapped}
+use Rattle.block_records.specs.Arrays.{flagged}
 use Rattle.block_records.specs.Lists.{padded}
 use Rattle.block_records.specs.Zeros.{zero-tops}
-use Rattle.blocks_group.specs.GroupArrays.{flagged, with-records}
+use Rattle.blocks_group.specs.GroupArrays.{with-records}
 use Rattle.blocks_group.proofs.GroupStepLaws.{retain-entries-by-flags, retain-masters-by-flags}
 use borrow.Author.Needs.{needs}
 use Rattle.blocks_group.proofs.group.retain_masters.Statement.{statement}

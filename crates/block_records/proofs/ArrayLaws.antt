@@ -1,20 +1,21 @@
--- Lists that stand in arrays, over any element type: the first places, what stands at a place, and one turn of each kind of loop.
+-- Lists that stand in arrays, over any element type: the first places, what stands at a place, and one turn of each kind of loop that fills an array.
 -- Assumes nothing.
 use mathlib.Core.Bool.{Bool, false, true}
-use mathlib.Core.List.{List, [], _++_, _∷_, append-assoc, append-nil}
+use mathlib.Core.List.{List, [], _++_, _∷_, append-nil}
 use mathlib.Core.Path.{_∙_, _≡_, ap, refl, subst, sym}
 use Prim.Native.Nat.{_+_, _-_, _<_, _≤_, suc, zero, ℕ}
-use native.Mathlib.Nat.{le-refl, sub-zero}
+use native.Mathlib.Nat.{le-refl}
 use native.Mathlib.Numerals.{add-one}
 use native.Mathlib.Omega.{arith}
 use borrow.Author.Tests.{ltb-false, ltb-true}
 use lib.Dec.{ltb}
 use lib.ListN.{List·getD-append, drop, getD, length, length-append, length-drop, length-replicate, replicate, set, take}
-use lib.Seq.{getD-append-add, getD-at, getD-drop, getD-take, length-take-le, set-at, take-all, take-at, take-suc}
+use lib.Seq.{getD-append-add, getD-at, getD-drop, getD-take, length-take-le, take-all, take-at}
 use Rattle.block_records.proofs.ListLaws.{length-each}
+use Rattle.block_records.proofs.LoopLaws.{padded-nil, set-padded, take-more}
 use Rattle.block_records.proofs.Tests.{and-left, and-right, on}
+use Rattle.block_records.specs.Arrays.{Splices, flagged, spliced}
 use Rattle.block_records.specs.Lists.{all, each, filter, padded, pick, put}
-use Rattle.blocks_group.specs.GroupArrays.{Splices, flagged, spliced}
 
 -- a count, or the number of places where it is past them, is within the places
 pub within-few : (size n : ℕ) → pick (ltb n size) n size ≤ size
@@ -34,10 +35,6 @@ module _ {A : Type 0} where
   getD-any (x ∷ xs) (suc i) d e h = getD-any xs i d e (omega arith)
 
   -- ===== the first places =====
-
-  -- one element more, at the code's `i + 1`
-  pub take-next : (xs : List A) (i : ℕ) (d : A) → i < length xs → take (i + 1) xs ≡ take i xs ++ (getD xs i d ∷ [])
-  take-next xs i d h = rw add-one (take-suc xs i d h)
 
   -- a count past the places is the number of places
   pub take-within : (size n : ℕ) (xs : List A) → length xs ≡ size → take (pick (ltb n size) n size) xs ≡ take n xs
@@ -66,11 +63,6 @@ module _ {A : Type 0} where
 
   -- ===== an array of n places: the list, then z in the places that are left =====
 
-  -- nothing listed: z in every place
-  pub padded-nil : (n : ℕ) (z : A) → padded n z [] ≡ replicate n z
-  unfolding padded
-  padded-nil n z = rw sub-zero
-
   -- it has n places
   pub length-padded : (n : ℕ) (z : A) (xs : List A) → length xs ≤ n → length (padded n z xs) ≡ n
   unfolding padded
@@ -80,14 +72,6 @@ module _ {A : Type 0} where
   pub take-padded-at : (n : ℕ) (z : A) (xs : List A) (k : ℕ) → length xs ≡ k → take k (padded n z xs) ≡ xs
   unfolding padded
   take-padded-at n z xs k e = take-at xs (replicate (n - length xs) z) k e
-
-  -- the first free place is written
-  pub set-padded : (n : ℕ) (z : A) (xs : List A) (i : ℕ) (a : A) → length xs ≡ i → i < n → set (padded n z xs) i a ≡ padded n z (xs ++ (a ∷ []))
-  unfolding padded
-  set-padded n z xs i a e h =
-      let p : n - length xs ≡ suc (n - suc i) = omega arith in
-      let r : n - length (xs ++ (a ∷ [])) ≡ n - suc i = simp length-append (omega arith) in
-      rw (p, append-assoc, r) (set-at xs z (replicate (n - suc i) z) a i e)
 
   -- an array that is full has no place left
   pub padded-full : (n : ℕ) (z : A) (xs : List A) → n ≤ length xs → padded n z xs ≡ xs
@@ -100,11 +84,31 @@ module _ {A : Type 0} where
   pub fill-next : (n : ℕ) (z : A) (t out : List A) (i : ℕ) (v d : A) → out ≡ padded n z (take i t) → v ≡ getD t i d → i < length t → length t ≤ n →
       set out i v ≡ padded n z (take (i + 1) t)
   fill-next n z t out i v d o e h l =
-      rw (o, e, take-next t i d h) (set-padded n z (take i t) i (getD t i d) (length-take-le i t (omega arith)) (omega arith))
+      rw (o, e, take-more t i d h) (set-padded n z (take i t) i (getD t i d) (length-take-le i t (omega arith)) (omega arith))
 
   -- the loop ends
   pub fill-end : (n : ℕ) (z : A) (t out : List A) (i : ℕ) → out ≡ padded n z (take i t) → length t ≤ i → out ≡ padded n z t
   fill-end n z t out i o h = o ∙ ap (padded n z) (take-all i t h)
+
+-- ===== a loop that copies the first elements of an array of n, at place i =====
+
+module _ {A : Type 0} (n : ℕ) (z : A) (l : List A) (len : length l ≡ n) (out : List A) (i : ℕ) (e : out ≡ padded n z (take i l)) where
+  -- one turn
+  pub copy-next : (d : A) → i < n → set out i (getD l i d) ≡ padded n z (take (i + 1) l)
+  copy-next d h = fill-next n z l out i (getD l i d) d e refl (omega arith) (omega arith)
+
+  -- up to the count
+  pub copy-count : (count : ℕ) → i ≤ n → i ≤ count → count ≤ i → (out ≡ padded n z (take count l)) × (i ≡ length (take count l))
+  copy-count count h k m =
+      let q : i ≡ count = omega arith in
+      (e ∙ ap (λ (j : ℕ). padded n z (take j l)) q, q ∙ sym (length-take-le count l (omega arith)))
+
+  -- up to the end
+  pub copy-end : (count : ℕ) → n ≤ i → i ≤ count → (out ≡ padded n z (take count l)) × (n ≡ length (take count l))
+  copy-end count h k =
+      let a : take i l ≡ l = take-all i l (omega arith) in
+      let b : take count l ≡ l = take-all count l (omega arith) in
+      (e ∙ ap (padded n z) (a ∙ sym b), sym (ap length b ∙ len))
 
 module _ {A B : Type 0} where
   -- what stands at a place of the images

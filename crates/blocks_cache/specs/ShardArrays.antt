@@ -1,0 +1,40 @@
+-- What the code does to the array of shard groups, for every input, sound or not. It goes by what is listed; the places after that stay as they
+-- are. On packed groups this is the rule of the model, packed (proofs/ShardArrayLaws).
+-- Assumes nothing.
+use mathlib.Core.Bool.{Bool}
+use mathlib.Core.List.{List}
+use Prim.Native.Nat.{ℕ}
+use lib.Dec.{leb, ltb}
+use lib.ListN.{length, take}
+use Rattle.block_records.specs.declared.block_id.ShardIdent.{ShardIdent}
+use Rattle.blocks_cache.specs.declared.cache.ShardGroup.{ShardGroup}
+use Rattle.blocks_cache.specs.declared.place.Place.{Place}
+use Rattle.blocks_cache.specs.declared.shards.Shards.{Shards}
+use Rattle.block_records.specs.Arrays.{overwritten}
+use Rattle.block_records.specs.BlockIds.{less-shard, same-shard}
+use Rattle.block_records.specs.Lists.{pick, put}
+use Rattle.blocks_cache.specs.CacheLayout.{shard-group-before}
+use Rattle.blocks_cache.specs.Places.{place}
+
+-- how many groups are below a count of the 8 places
+abbrev pub listed-shards : ℕ → ℕ
+listed-shards n = pick (ltb n 8) n 8
+
+abbrev pub shard-below : ShardIdent → ShardGroup → Bool
+shard-below s g = less-shard (g .shard) s
+
+abbrev pub shard-at : ShardIdent → ShardGroup → Bool
+shard-at s g = same-shard (g .shard) s
+
+-- where a shard's group stands, or the place where it would go in
+abbrev pub shard-place : ShardIdent → ℕ → List ShardGroup → Place
+shard-place s n gs = place (shard-below s) (shard-at s) (take n gs)
+
+-- these groups, and in the places after them what stood there
+abbrev pub shards-over : List ShardGroup → List ShardGroup → Shards
+shards-over xs gs = record { groups = overwritten xs gs; count = length xs }
+
+-- the group put in by shard; one of the same shard is replaced; nothing changes where they would be more than 8
+abbrev pub put-shard : ShardGroup → ℕ → List ShardGroup → Shards
+put-shard g n gs =
+    pick (leb (length (put shard-group-before g (take n gs))) 8) (shards-over (put shard-group-before g (take n gs)) gs) (record { groups = gs; count = n })

@@ -1,0 +1,86 @@
+// Document 01, Whole cache: up to 8 shard groups, by rising shard.
+ghost use mathlib.Core.Path.{_≡_};
+ghost use Prim.Native.Nat.{_≤_, _<_};
+ghost use lib.ListN.{take};
+ghost use Rattle.block_records.specs.Arrays.{spliced};
+ghost use Rattle.blocks_cache.specs.ShardArrays.{listed-shards, shard-place, shards-over, put-shard};
+use crate::cache::ShardGroup;
+use crate::place::Place;
+use block_records::block_id::ShardIdent;
+use block_records::block_id::less_shard;
+use block_records::block_id::same_shard;
+
+pub struct Shards {
+    pub groups: [ShardGroup; 8],
+    pub count: usize,
+}
+
+// The number of places below a count.
+fn listed_shards(count: usize) -> usize
+    ensures { λ r. ⌜ r ≡ listed-shards count ⌝ }
+{
+    if count < 8 { count } else { 8 }
+}
+
+// Where a shard's group stands, or the place where it would go in.
+pub fn find_shard(groups: [ShardGroup; 8], count: usize, shard: ShardIdent) -> Place
+    ensures { λ r. ⌜ r ≡ shard-place shard count groups ⌝ }
+{
+    let listed = listed_shards(count);
+    let mut i: usize = 0;
+    while i < listed {
+        let g = groups[i];
+        let x = g.shard;
+        if !less_shard(x, shard) {
+            if same_shard(x, shard) {
+                return Place::At(i);
+            }
+            return Place::Vacant(i);
+        }
+        i += 1;
+    }
+    Place::Vacant(i)
+}
+
+// The groups from a place on moved one place further, and the given one put there.
+fn insert_shard(groups: [ShardGroup; 8], count: usize, at: usize, group: ShardGroup) -> Shards
+    requires { ⌜ (at ≤ count) × (count < 8) ⌝ }
+    ensures { λ r. ⌜ r ≡ shards-over (spliced at at group (take count groups)) groups ⌝ }
+{
+    let mut out = groups;
+    let mut j: usize = count;
+    while at < j {
+        let x = out[j - 1];
+        out[j] = x;
+        j -= 1;
+    }
+    out[at] = group;
+    Shards {
+        groups: out,
+        count: count + 1,
+    }
+}
+
+// The group put in by shard; one of the same shard is replaced. Where 8 are listed and none is of the shard, nothing changes.
+pub fn put_shard(groups: [ShardGroup; 8], count: usize, group: ShardGroup) -> Shards
+    ensures { λ r. ⌜ r ≡ put-shard group count groups ⌝ }
+{
+    let place = find_shard(groups, count, group.shard);
+    match place {
+        Place::At(at) => {
+            let mut out = groups;
+            out[at] = group;
+            let listed = listed_shards(count);
+            Shards {
+                groups: out,
+                count: listed,
+            }
+        }
+        Place::Vacant(at) => {
+            if count < 8 {
+                return insert_shard(groups, count, at, group);
+            }
+            Shards { groups, count }
+        }
+    }
+}
