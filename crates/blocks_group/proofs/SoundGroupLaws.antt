@@ -1,0 +1,154 @@
+-- Question 1 of a group, as it is defined and as the code asks it part by part, is the same; a sound group is the packing of its view.
+-- Assumes nothing.
+use mathlib.Core.Bool.{Bool, _&&_, false, true}
+use mathlib.Core.List.{List, [], _∷_}
+use mathlib.Core.Path.{_∙_, _≡_, ap, ap₂, refl, sym}
+use native.Mathlib.Omega.{arith}
+use borrow.Author.Tests.{le-leb}
+use lib.Dec.{leb}
+use lib.ListN.{length, take}
+use Rattle.block_records.specs.declared.block_id.ShardIdent.{ShardIdent}
+use Rattle.block_records.specs.declared.entry.BlockCacheEntry.{BlockCacheEntry}
+use Rattle.block_records.specs.declared.entry.MasterBlock.{MasterBlock}
+use Rattle.block_records.specs.declared.top_block.TopBlocks.{TopBlocks}
+use Rattle.blocks_group.specs.declared.group.Group.{Group}
+use Rattle.blocks_group.specs.declared.group.MasterGroup.{MasterGroup}
+use Rattle.block_records.proofs.ListLaws.{length-each}
+use Rattle.block_records.proofs.QuestionLaws.{held-fits-is}
+use Rattle.block_records.proofs.SameLaws.{tops-same}
+use Rattle.block_records.proofs.Tests.{and-left, on}
+use Rattle.block_records.proofs.TidyLaws.{all-same}
+use Rattle.block_records.specs.BlockIds.{id-shard, is-masterchain, listed-tops}
+use Rattle.block_records.specs.Entries.{Entry}
+use Rattle.block_records.specs.EntryLayout.{entry-tidy, tops-tidy, view-entry, view-shard-entry}
+use Rattle.block_records.specs.Lists.{all, each, padded, rising}
+use Rattle.block_records.specs.Questions.{entry-fits}
+use Rattle.block_records.specs.Zeros.{zero-tops}
+use Rattle.blocks_group.proofs.GroupLayoutLaws.{group-same, master-group-same}
+use Rattle.blocks_group.proofs.GroupStepLaws.{listed-few, masters-entries, masters-length, masters-tops}
+use Rattle.blocks_group.proofs.TidyGroupLaws.{group-tidy-is, master-group-tidy-is}
+use Rattle.blocks_group.specs.GroupArrays.{beside, listed-entries, listed-masters, record-before}
+use Rattle.blocks_group.specs.GroupLayout.{group-tidy, master-group-tidy, pack-group, pack-master-group, sound-group, sound-master-group, view-group, view-master-group, view-masters}
+use Rattle.blocks_group.specs.GroupParts.{boundary-held, group-in-parts, master-sound, masters-in-parts, record-sound, tops-zeros-from, zeros-from}
+use Rattle.blocks_group.specs.GroupRules.{entry-before}
+use Rattle.blocks_group.specs.GroupSoundness.{fits-in, group-sound}
+
+and-true : (a : Bool) → a && true ≡ a
+and-true true = refl
+and-true false = refl
+
+-- the order in which the definition and the code ask: count, tidy entries, zeros, tidy tops, zero tops | order, fit, boundary
+in-parts : (c t z i y r f b : Bool) → ((c && (t && z)) && (i && y)) && (true && (r && (f && b))) ≡ c && ((t && (i && f)) && (r && (z && (y && b))))
+in-parts false t z i y r f b = refl
+in-parts true false z i y r f b = refl
+in-parts true true true false y r f b = refl
+in-parts true true false false y r f b = refl
+in-parts true true false true y r false b = refl
+in-parts true true false true y true true b = refl
+in-parts true true false true y false true b = refl
+in-parts true true true true false r false b = refl
+in-parts true true true true false true true b = refl
+in-parts true true true true false false true b = refl
+in-parts true true true true true r true b = refl
+in-parts true true true true true true false b = refl
+in-parts true true true true true false false b = refl
+
+module _ {A : Type 0} where
+  all-both : (p q : A → Bool) (xs : List A) → all p xs && all q xs ≡ all (λ (x : A). p x && q x) xs
+  all-both p q [] = refl
+  all-both p q (x ∷ xs) = swap (p x) (all p xs) (q x) (all q xs) ∙ ap (λ (b : Bool). (p x && q x) && b) (all-both p q xs)
+    where
+      swap : (a b c d : Bool) → (a && b) && (c && d) ≡ (a && c) && (b && d)
+      swap false b c d = refl
+      swap true b true d = refl
+      swap true true false d = refl
+      swap true false false d = refl
+
+module _ {A B : Type 0} where
+  all-image : (f : A → B) (p : B → Bool) (xs : List A) → all p (each f xs) ≡ all (λ (x : A). p (f x)) xs
+  all-image f p [] = refl
+  all-image f p (x ∷ xs) = ap (λ (b : Bool). p (f x) && b) (all-image f p xs)
+
+  rising-image : (f : A → B) (lt : B → B → Bool) (xs : List A) → rising lt (each f xs) ≡ rising (λ (x y : A). lt (f x) (f y)) xs
+  rising-image f lt [] = refl
+  rising-image f lt (x ∷ xs) = ap₂ _&&_ (all-image f (lt (f x)) xs) (rising-image f lt xs)
+
+-- ===== a shard's group =====
+
+no-tops-tidy : tops-tidy zero-tops ≡ true
+unfolding zero-tops padded
+no-tops-tidy = tops-same .same-refl zero-tops
+
+-- of a tidy entry the code asks what is asked of the entry that it stands for
+record-asked : (p : ShardIdent → Bool) (b : BlockCacheEntry) → entry-tidy b && (p (id-shard (b .«block_id»)) && entry-fits (view-shard-entry b)) ≡ record-sound p b
+unfolding zero-tops
+record-asked p b =
+    on (entry-tidy b)
+    (λ t. ap (λ (f : Bool). entry-tidy b && (p (id-shard (b .«block_id»)) && f)) (sym (held-fits-is b zero-tops t no-tops-tidy)))
+    (λ t. rw t)
+
+pub sound-group-parts : (p : ShardIdent → Bool) (g : Group) → length (g .entries) ≡ 16 → sound-group p g ≡ group-in-parts p g
+sound-group-parts p g long =
+    let l = listed-entries g in
+    let n : leb (length (each view-shard-entry l)) 16 ≡ true = le-leb (length (each view-shard-entry l)) 16 (omega (arith, length-each view-shard-entry l, listed-few g long)) in
+    let e : all entry-tidy l && all (fits-in p) (each view-shard-entry l) ≡ all (record-sound p) l =
+    ap (λ (b : Bool). all entry-tidy l && b) (all-image view-shard-entry (fits-in p) l) ∙ all-both entry-tidy (λ (b : BlockCacheEntry). fits-in p (view-shard-entry b)) l
+    ∙ all-same (λ (b : BlockCacheEntry). entry-tidy b && fits-in p (view-shard-entry b)) (record-sound p) l (λ b u. record-asked p b) in
+    ap (λ (t : Bool). t && group-sound p (view-group g)) (group-tidy-is g long ∙ sym (and-true _))
+    ∙ ap (λ (m : Bool). ((leb (g .count) 16 && (all entry-tidy l && zeros-from (g .count) (g .entries))) && true) && (m && (rising entry-before (each view-shard-entry l) && (all (fits-in p) (each view-shard-entry l) && boundary-held p (g .boundary))))) n
+    ∙ in-parts (leb (g .count) 16) (all entry-tidy l) (zeros-from (g .count) (g .entries)) true true (rising entry-before (each view-shard-entry l)) (all (fits-in p) (each view-shard-entry l)) (boundary-held p (g .boundary))
+    ∙ ap₂ (λ (a r : Bool). leb (g .count) 16 && (a && (r && (zeros-from (g .count) (g .entries) && boundary-held p (g .boundary))))) e (rising-image view-shard-entry entry-before l)
+
+-- ===== the master group =====
+
+abbrev view-master : MasterBlock → Entry
+view-master b = view-entry (b .entry) (listed-tops (b .tops))
+
+view-beside : (bs : List BlockCacheEntry) (ts : List TopBlocks) → view-masters bs ts ≡ each view-master (beside bs ts)
+view-beside [] ts = refl
+view-beside (b ∷ bs) [] = refl
+view-beside (b ∷ bs) (t ∷ ts) = ap (λ (r : List Entry). view-entry b (listed-tops t) ∷ r) (view-beside bs ts)
+
+master-asked : (b : MasterBlock) → entry-tidy (b .entry) && (tops-tidy (b .tops) && fits-in is-masterchain (view-master b)) ≡ master-sound b
+master-asked b =
+    on (entry-tidy (b .entry))
+    (λ t. on (tops-tidy (b .tops))
+    (λ u. ap (λ (f : Bool). entry-tidy (b .entry) && (tops-tidy (b .tops) && (is-masterchain (id-shard (b .entry .«block_id»)) && f))) (sym (held-fits-is (b .entry) (b .tops) t u)))
+    (λ u. rw u))
+    (λ t. rw t)
+
+pub sound-master-group-parts : (g : MasterGroup) → length (g .group .entries) ≡ 16 → length (g .tops) ≡ 16 → sound-master-group g ≡ masters-in-parts g
+sound-master-group-parts g long long-tops =
+    let k = g .group .count in
+    let l = listed-masters g in
+    let z = zeros-from k (g .group .entries) in
+    let y = tops-zeros-from k (g .tops) in
+    let b = boundary-held is-masterchain (g .group .boundary) in
+    let v : view-masters (take k (g .group .entries)) (g .tops) ≡ each view-master l = view-beside (take k (g .group .entries)) (g .tops) in
+    let n : leb (length (each view-master l)) 16 ≡ true =
+    le-leb (length (each view-master l)) 16 (omega (arith, length-each view-master l, masters-length g long long-tops, listed-few (g .group) long)) in
+    let t : all entry-tidy (listed-entries (g .group)) ≡ all (λ (b : MasterBlock). entry-tidy (b .entry)) l =
+    ap (all entry-tidy) (sym (masters-entries g long long-tops)) ∙ all-image (λ (b : MasterBlock). b .entry) entry-tidy l in
+    let i : all tops-tidy (take k (g .tops)) ≡ all (λ (b : MasterBlock). tops-tidy (b .tops)) l =
+    ap (all tops-tidy) (sym (masters-tops g long long-tops)) ∙ all-image (λ (b : MasterBlock). b .tops) tops-tidy l in
+    let f = all-image view-master (fits-in is-masterchain) l in
+    let r : rising entry-before (each view-master l) ≡ rising record-before (listed-entries (g .group)) =
+    rising-image view-master entry-before l ∙ sym (rising-image (λ (b : MasterBlock). b .entry) record-before l) ∙ ap (rising record-before) (masters-entries g long long-tops) in
+    let e : all entry-tidy (listed-entries (g .group)) && (all tops-tidy (take k (g .tops)) && all (fits-in is-masterchain) (each view-master l)) ≡ all master-sound l =
+    ap₂ _&&_ t (ap₂ _&&_ i f ∙ all-both (λ (b : MasterBlock). tops-tidy (b .tops)) (λ (b : MasterBlock). fits-in is-masterchain (view-master b)) l)
+    ∙ all-both (λ (b : MasterBlock). entry-tidy (b .entry)) (λ (b : MasterBlock). tops-tidy (b .tops) && fits-in is-masterchain (view-master b)) l
+    ∙ all-same (λ (b : MasterBlock). entry-tidy (b .entry) && (tops-tidy (b .tops) && fits-in is-masterchain (view-master b))) master-sound l (λ b u. master-asked b) in
+    let q = master-group-tidy-is g long long-tops ∙ ap (λ (t : Bool). t && (all tops-tidy (take k (g .tops)) && y)) (group-tidy-is (g .group) long) in
+    ap₂ _&&_ q
+    (ap (λ (es : List Entry). leb (length es) 16 && (rising entry-before es && (all (fits-in is-masterchain) es && b))) v
+    ∙ ap (λ (m : Bool). m && (rising entry-before (each view-master l) && (all (fits-in is-masterchain) (each view-master l) && b))) n)
+    ∙ in-parts (leb k 16) (all entry-tidy (listed-entries (g .group))) z (all tops-tidy (take k (g .tops))) y (rising entry-before (each view-master l)) (all (fits-in is-masterchain) (each view-master l)) b
+    ∙ ap₂ (λ (a o : Bool). leb k 16 && (a && (o && (z && (y && b))))) e r
+
+-- ===== a sound group is the packing of its view =====
+
+pub sound-group-packed : (p : ShardIdent → Bool) (g : Group) → sound-group p g ≡ true → g ≡ pack-group (view-group g)
+sound-group-packed p g h = group-same .same-eq g (pack-group (view-group g)) (and-left (group-tidy g) (group-sound p (view-group g)) h)
+
+pub sound-master-group-packed : (g : MasterGroup) → sound-master-group g ≡ true → g ≡ pack-master-group (view-master-group g)
+sound-master-group-packed g h = master-group-same .same-eq g (pack-master-group (view-master-group g)) (and-left (master-group-tidy g) (group-sound is-masterchain (view-master-group g)) h)
