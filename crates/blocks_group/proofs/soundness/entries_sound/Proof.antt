@@ -6,9 +6,9 @@ use native.Mathlib.Nat.{sub-zero}
 use native.Mathlib.Omega.{arith}
 use borrow.Author.Tests.{not-true, not-false}
 use lib.ListN.{length, take}
+use Rattle.block_records.proofs.LoopLaws.{count-end, count-next, count-passed, count-stop, left, length-mapped}
 use Rattle.block_records.specs.Lists.{all}
 use Rattle.block_records.specs.Zeros.{zero-entry}
-use Rattle.block_records.proofs.LoopLaws.{left, count-next, count-stop, count-passed, count-end, length-mapped}
 use Rattle.blocks_group.specs.GroupParts.{record-sound}
 use Rattle.blocks_group.specs.GroupSoundness.{of-shard}
 use borrow.Author.Needs.{needs}

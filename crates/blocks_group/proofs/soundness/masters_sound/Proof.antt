@@ -4,8 +4,8 @@ use Prim.Native.Nat.{_≤_, _-_}
 use mathlib.Core.Path.{_≡_, ap, sym, _∙_}
 use borrow.Author.Tests.{not-true, not-false}
 use lib.ListN.{length, take}
-use Rattle.block_records.specs.Lists.{all}
 use Rattle.block_records.proofs.LoopLaws.{left, left-start, length-mapped}
+use Rattle.block_records.specs.Lists.{all}
 use Rattle.blocks_group.specs.GroupArrays.{beside}
 use Rattle.blocks_group.specs.GroupParts.{master-sound}
 use Rattle.blocks_group.proofs.GroupLoopLaws.{beside-take, masters-next, masters-over, masters-passed, masters-stop}

@@ -4,9 +4,9 @@ use Prim.Native.Nat.{_≤_, _-_}
 use mathlib.Core.Path.{_≡_, sym, _∙_}
 use native.Mathlib.Omega.{arith}
 use lib.ListN.{length, take}
+use Rattle.block_records.proofs.LoopLaws.{left, length-mapped}
 use Rattle.block_records.specs.Lists.{rising}
 use Rattle.block_records.specs.Zeros.{zero-entry}
-use Rattle.block_records.proofs.LoopLaws.{left, length-mapped}
 use Rattle.blocks_group.specs.GroupArrays.{record-before, record-seqno}
 use Rattle.blocks_group.proofs.GroupLoopLaws.{rises-from, rises-next, rises-over, rises-passed, rises-start, rises-stop}
 use borrow.Author.Needs.{needs}

@@ -5,9 +5,9 @@ use mathlib.Core.Path.{_≡_, sym, _∙_}
 use native.Mathlib.Omega.{arith}
 use borrow.Author.Tests.{not-true, not-false}
 use lib.ListN.{length, drop}
+use Rattle.block_records.proofs.LoopLaws.{length-mapped, rest-end, rest-next, rest-stop}
 use Rattle.block_records.specs.Lists.{all}
 use Rattle.block_records.specs.Zeros.{is-zero-tops, zero-tops}
-use Rattle.block_records.proofs.LoopLaws.{rest-next, rest-stop, rest-end, length-mapped}
 use borrow.Author.Needs.{needs}
 use Rattle.blocks_group.proofs.soundness.tops_zero.Statement.{statement}
 use Rattle.blocks_group.proofs.soundness.tops_zero.Tie as tie

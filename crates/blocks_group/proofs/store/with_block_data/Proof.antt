@@ -1,0 +1,14 @@
+-- The entry changed, the top items kept.
+-- Assumes nothing.
+use borrow.Author.Needs.{needs}
+use Rattle.blocks_group.proofs.store.with_block_data.Statement.{statement}
+use Rattle.blocks_group.proofs.store.with_block_data.Tie as tie
+
+with-data-requires : tie.Need-with-data-requires
+with-data-requires c κs = search needs
+
+returns : tie.Need-returns
+returns c = cc
+
+pub with-block-data-spec : {M : Type 1} → statement M
+with-block-data-spec = tie.close (tie.spec with-data-requires returns)
