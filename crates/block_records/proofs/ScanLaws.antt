@@ -14,7 +14,7 @@ use lib.ListN.{drop, drop-of-length-le, getD, length, length-append, length-set,
 use lib.Seq.{drop-append-add, drop-append-le, drop-cons, getD-take, length-take-le, set-at, set-set, set-split, take-nil, take-set-le, take-take}
 use Rattle.block_records.proofs.ArrayLaws.{length-spliced, length-within}
 use Rattle.block_records.proofs.ListLaws.{Order, all-weaken}
-use Rattle.block_records.proofs.LoopLaws.{drop-next, left, padded-nil, set-padded, take-more}
+use Rattle.block_records.proofs.LoopLaws.{left, left-more, left-passed, padded-nil, set-padded, take-more}
 use Rattle.block_records.proofs.Tests.{and-intro, and-left, and-right, iff-same, on}
 use Rattle.block_records.specs.Arrays.{overwritten, spliced}
 use Rattle.block_records.specs.Lists.{all, filter, find, last, padded, pick, present, put, rising}
@@ -38,14 +38,6 @@ module _ {A : Type 0} where
       let k : n ≡ n - 1 + 1 = omega arith in
       let e : take n xs ≡ take (n - 1) xs ++ (getD xs (n - 1) d ∷ []) = ap (λ (j : ℕ). take j xs) k ∙ take-more xs (n - 1) d (omega arith) in
       rw e (last-snoc (take (n - 1) xs) (getD xs (n - 1) d))
-
-  -- what is left of the first `count`, from place i on
-  pub left-more : (l : List A) (count i : ℕ) (d : A) → i < length l → i < count → left l count i ≡ getD l i d ∷ left l count (i + 1)
-  left-more l count i d h k = let e : count - i ≡ suc (count - (i + 1)) = omega arith in rw (drop-next l i d h, e)
-
-  -- nothing is left past the count
-  pub left-passed : (l : List A) (count i : ℕ) → count ≤ i → left l count i ≡ []
-  left-passed l count i h = let e : count - i ≡ 0 = omega arith in rw e
 
 -- ===== a search for one that passes, at place i of the first `count` =====
 

@@ -14,13 +14,11 @@ use Rattle.blocks_cache.specs.declared.place.Place.{Place}
 use Rattle.blocks_cache.specs.declared.place.Place.the-variants.{At as place-at, Vacant as place-vacant}
 use Rattle.block_records.proofs.ArrayLaws.{length-spliced}
 use Rattle.block_records.proofs.ListLaws.{all-weaken}
-use Rattle.block_records.proofs.LoopLaws.{left, left-start}
-use Rattle.block_records.proofs.ScanLaws.{left-more}
+use Rattle.block_records.proofs.LoopLaws.{left, left-more, left-passed, left-start}
 use Rattle.block_records.proofs.Tests.{and-left, and-right, not-true, on}
 use Rattle.block_records.specs.Arrays.{Splices, spliced}
 use Rattle.block_records.specs.Lists.{all, each, find, put, rising}
 use Rattle.blocks_cache.specs.Places.{place, place-from}
-use Rattle.blocks_group.proofs.GroupLoopLaws.{left-passed}
 
 -- ===== one turn of a search, at place i of the first `count` =====
 

@@ -7,31 +7,14 @@ use Prim.Native.Nat.{_+_, _-_, _<_, _≤_, suc, zero, ℕ}
 use native.Mathlib.Omega.{arith}
 use borrow.Author.Tests.{le-ltb, lt-ltb, ltb-true}
 use lib.Dec.{ltb}
-use lib.ListN.{drop-of-length-le, getD, length, take}
-use lib.Seq.{take-nil}
+use lib.ListN.{getD, length, take}
 use Rattle.block_records.specs.declared.entry.BlockCacheEntry.{BlockCacheEntry}
 use Rattle.block_records.specs.declared.entry.MasterBlock.{MasterBlock}
 use Rattle.block_records.specs.declared.top_block.TopBlocks.{TopBlocks}
 use Rattle.block_records.proofs.ListLaws.{all-weaken}
-use Rattle.block_records.proofs.LoopLaws.{count-next, count-stop, drop-next, left}
+use Rattle.block_records.proofs.LoopLaws.{count-next, count-stop, left, left-more, left-over, left-passed}
 use Rattle.block_records.specs.Lists.{all, rising}
 use Rattle.blocks_group.specs.GroupArrays.{beside}
-
--- ===== what is left of the first `count` elements at place i =====
-
-module _ {A : Type 0} (l : List A) (count i : ℕ) where
-  pub left-cons : (d : A) → i < length l → i < count → left l count i ≡ getD l i d ∷ left l count (i + 1)
-  left-cons d h k =
-      let e : count - i ≡ suc (count - (i + 1)) = omega arith in
-      rw (drop-next l i d h, e)
-
-  pub left-passed : count ≤ i → left l count i ≡ []
-  left-passed h =
-      let e : count - i ≡ 0 = omega arith in
-      rw e
-
-  pub left-over : length l ≤ i → left l count i ≡ []
-  left-over h = rw (drop-of-length-le l {i = i} h, take-nil (count - i))
 
 -- ===== seqnos rise: each above the one before it =====
 
@@ -61,10 +44,10 @@ module _ {A : Type 0} (f : A → ℕ) where
 
   module _ (d : A) (l : List A) (count i lo : ℕ) where
     pub rises-next : i < length l → i < count → lo < f (getD l i d) → rises-from lo (left l count i) ≡ rises-from (f (getD l i d)) (left l count (i + 1))
-    rises-next h k e = rw (left-cons l count i d h k, lt-ltb lo (f (getD l i d)) e)
+    rises-next h k e = rw (left-more l count i d h k, lt-ltb lo (f (getD l i d)) e)
 
     pub rises-stop : i < length l → i < count → f (getD l i d) ≤ lo → rises-from lo (left l count i) ≡ false
-    rises-stop h k e = rw (left-cons l count i d h k, le-ltb lo (f (getD l i d)) e)
+    rises-stop h k e = rw (left-more l count i d h k, le-ltb lo (f (getD l i d)) e)
 
     pub rises-passed : count ≤ i → rises-from lo (left l count i) ≡ true
     rises-passed h = rw (left-passed l count i h)
