@@ -1,0 +1,241 @@
+// Document 01, Whole cache: what pop, peek, collect and remove next collated ask of one group.
+ghost use mathlib.Core.Path.{_≡_};
+ghost use lib.Dec.{ltb};
+ghost use Rattle.block_records.specs.Lists.{pick};
+ghost use Rattle.blocks_group.specs.GroupArrays.{record-seqno};
+ghost use Rattle.blocks_group.specs.GroupQueries.{record-applied-from, record-applied-above, first-applied-place, first-applied-master, any-applied-above};
+ghost use Rattle.blocks_group.specs.GroupQueries.{pack-seqno, view-seqno, chosen, higher-of, lower-of, highest-seqno, seqnos-of, record-below, highest-below-boundary};
+ghost use Rattle.blocks_group.specs.GroupQueries.{record-collated-above, lowest-collated-above, collect-group, collect-masters};
+ghost use Rattle.blocks_group.specs.GroupQueries.{remove-collated-above, remove-collated-masters-above};
+use crate::group::Boundary;
+use crate::group::Group;
+use crate::group::MasterAt;
+use crate::group::MasterGroup;
+use crate::group::Retained;
+use crate::group::retain_entries;
+use crate::group::retain_masters;
+use crate::search::Found;
+use block_records::entry::BlockCacheEntry;
+use block_records::entry::MasterBlock;
+use block_records::entry::is_applied;
+use block_records::entry::is_received;
+use block_records::entry::zero_master;
+
+// A seqno, or none.
+pub enum SeqnoOption {
+    Absent,
+    At(u32),
+}
+
+// ===== applied entries =====
+
+fn is_applied_from(entry: BlockCacheEntry, from: u32) -> bool
+    ensures { λ r. ⌜ r ≡ record-applied-from from entry ⌝ }
+{
+    let applied = is_applied(entry);
+    (from <= entry.block_id.seqno) & applied
+}
+
+fn is_applied_above(entry: BlockCacheEntry, seqno: u32) -> bool
+    ensures { λ r. ⌜ r ≡ record-applied-above seqno entry ⌝ }
+{
+    let applied = is_applied(entry);
+    (seqno < entry.block_id.seqno) & applied
+}
+
+// The place of the first applied entry at or above a seqno.
+fn first_applied_place(group: Group, from: u32) -> Found
+    ensures { λ r. ⌜ r ≡ first-applied-place from group ⌝ }
+{
+    let count = group.count;
+    let mut i: usize = 0;
+    while i < 16 {
+        if count <= i {
+            return Found::Vacant(i);
+        }
+        let entry = group.entries[i];
+        if is_applied_from(entry, from) {
+            return Found::At(i);
+        }
+        i += 1;
+    }
+    Found::Vacant(i)
+}
+
+// The lowest applied master at or above a seqno, with its top items.
+pub fn first_applied_master(masters: MasterGroup, from: u32) -> MasterAt
+    ensures { λ r. ⌜ r ≡ first-applied-master from masters ⌝ }
+{
+    let group = masters.group;
+    let found = first_applied_place(group, from);
+    let Found::At(at) = found else {
+        let zero = zero_master();
+        return MasterAt {
+            found: found,
+            block: zero,
+        };
+    };
+    let entry = group.entries[at];
+    let tops = masters.tops[at];
+    let block = MasterBlock {
+        entry: entry,
+        tops: tops,
+    };
+    MasterAt {
+        found: found,
+        block: block,
+    }
+}
+
+// Whether an applied entry lies above a seqno.
+pub fn applied_above(group: Group, seqno: u32) -> bool
+    ensures { λ r. ⌜ r ≡ any-applied-above seqno group ⌝ }
+{
+    let count = group.count;
+    let mut i: usize = 0;
+    while i < 16 {
+        if count <= i {
+            return false;
+        }
+        let entry = group.entries[i];
+        if is_applied_above(entry, seqno) {
+            return true;
+        }
+        i += 1;
+    }
+    false
+}
+
+// ===== collect: entries below the boundary go =====
+
+// One entry more: its seqno if it is below the limit and above the best so far.
+fn higher_below(best: SeqnoOption, seqno: u32, limit: u32) -> SeqnoOption
+    ensures { λ r. ⌜ r ≡ pick (ltb seqno limit) (pack-seqno (chosen higher-of (view-seqno best) seqno)) best ⌝ }
+{
+    if limit <= seqno {
+        return best;
+    }
+    match best {
+        SeqnoOption::Absent => SeqnoOption::At(seqno),
+        SeqnoOption::At(known) => {
+            if known < seqno {
+                SeqnoOption::At(seqno)
+            } else {
+                SeqnoOption::At(known)
+            }
+        }
+    }
+}
+
+// The highest seqno of the entries below a seqno.
+fn highest_below(group: Group, limit: u32) -> SeqnoOption
+    ensures { λ r. ⌜ r ≡ pack-seqno (highest-seqno (seqnos-of (record-below limit) group)) ⌝ }
+{
+    let count = group.count;
+    let mut best = SeqnoOption::Absent;
+    let mut i: usize = 0;
+    while i < 16 {
+        if count <= i {
+            return best;
+        }
+        let seqno = group.entries[i].block_id.seqno;
+        best = higher_below(best, seqno, limit);
+        i += 1;
+    }
+    best
+}
+
+// The highest seqno of the entries that collect removes.
+pub fn highest_below_boundary(group: Group) -> SeqnoOption
+    ensures { λ r. ⌜ r ≡ highest-below-boundary group ⌝ }
+{
+    let boundary = group.boundary;
+    let Boundary::At(short) = boundary else {
+        return SeqnoOption::Absent;
+    };
+    highest_below(group, short.seqno)
+}
+
+pub fn collect_group(group: Group) -> Group
+    ensures { λ r. ⌜ r ≡ collect-group group ⌝ }
+{
+    let boundary = group.boundary;
+    let Boundary::At(short) = boundary else {
+        return group;
+    };
+    let rule = Retained::From(short.seqno);
+    retain_entries(group, rule)
+}
+
+pub fn collect_masters(masters: MasterGroup) -> MasterGroup
+    ensures { λ r. ⌜ r ≡ collect-masters masters ⌝ }
+{
+    let group = masters.group;
+    let boundary = group.boundary;
+    let Boundary::At(short) = boundary else {
+        return masters;
+    };
+    let rule = Retained::From(short.seqno);
+    retain_masters(masters, rule)
+}
+
+// ===== remove next collated: non-Received entries above a seqno go =====
+
+fn is_collated_above(entry: BlockCacheEntry, seqno: u32) -> bool
+    ensures { λ r. ⌜ r ≡ record-collated-above seqno entry ⌝ }
+{
+    let received = is_received(entry);
+    (seqno < entry.block_id.seqno) & !received
+}
+
+// One entry more: its seqno if it is removed and below the best so far.
+fn lower_collated(best: SeqnoOption, entry: BlockCacheEntry, seqno: u32) -> SeqnoOption
+    ensures { λ r. ⌜ r ≡ pick (record-collated-above seqno entry) (pack-seqno (chosen lower-of (view-seqno best) (record-seqno entry))) best ⌝ }
+{
+    if !is_collated_above(entry, seqno) {
+        return best;
+    }
+    let own = entry.block_id.seqno;
+    match best {
+        SeqnoOption::Absent => SeqnoOption::At(own),
+        SeqnoOption::At(known) => {
+            if own < known {
+                SeqnoOption::At(own)
+            } else {
+                SeqnoOption::At(known)
+            }
+        }
+    }
+}
+
+// The lowest seqno of the entries that the removal above a seqno takes.
+pub fn lowest_collated_above(group: Group, seqno: u32) -> SeqnoOption
+    ensures { λ r. ⌜ r ≡ lowest-collated-above seqno group ⌝ }
+{
+    let count = group.count;
+    let mut best = SeqnoOption::Absent;
+    let mut i: usize = 0;
+    while i < 16 {
+        if count <= i {
+            return best;
+        }
+        let entry = group.entries[i];
+        best = lower_collated(best, entry, seqno);
+        i += 1;
+    }
+    best
+}
+
+pub fn remove_collated_above(group: Group, seqno: u32) -> Group
+    ensures { λ r. ⌜ r ≡ remove-collated-above seqno group ⌝ }
+{
+    let rule = Retained::UpToOrReceived(seqno);
+    retain_entries(group, rule)
+}
+
+pub fn remove_collated_masters_above(masters: MasterGroup, seqno: u32) -> MasterGroup
+    ensures { λ r. ⌜ r ≡ remove-collated-masters-above seqno masters ⌝ }
+{
+    let rule = Retained::UpToOrReceived(seqno);
+    retain_masters(masters, rule)
+}
