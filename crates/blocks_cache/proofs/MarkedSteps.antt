@@ -24,8 +24,8 @@ use Rattle.blocks_cache.specs.Calls.{Call, Request, collect, peek, pop, 
 use Rattle.blocks_cache.specs.Effects.{after, answered, effect, step}
 use Rattle.blocks_cache.specs.Marked.{group-marked, received-marked}
 use Rattle.blocks_cache.specs.Model.{Model, empty-model, entry-for, first-applied, group-for}
-use Rattle.blocks_cache.specs.Refusals.{further, mark-reaches, questions, vacant-or}
-use Rattle.blocks_group.specs.GroupRules.{GroupModel, at-seqno, given-mark, has-seqno}
+use Rattle.blocks_cache.specs.Refusals.{further, mark-reaches, questions}
+use Rattle.blocks_group.specs.GroupRules.{GroupModel, at-seqno, given-mark, has-seqno, vacant-or}
 
 -- ===== every request, every call, every list of calls =====
 

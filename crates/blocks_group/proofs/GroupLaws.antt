@@ -91,16 +91,17 @@ put-same n e x g r f s =
     length-put-same entry-before (by-number entry-seqno) e x (g .entries) r (find-member (has-seqno n) (g .entries) f)
     (le-ltb (e .id .seqno) (x .id .seqno) (omega arith)) (le-ltb (x .id .seqno) (e .id .seqno) (omega arith))
 
-put-fits : (p : ShardIdent → Bool) (n : ℕ) (e : Entry) (g : GroupModel) (o : Option Entry) → group-sound p g ≡ true → at-seqno n (g .entries) ≡ o → e .id .seqno ≡ n →
-    present o || ltb (length (g .entries)) 16 ≡ true → length (put entry-before e (g .entries)) ≤ 16
-put-fits p n e g none h f s room = omega (arith, length-put entry-before e (g .entries), ltb-true (length (g .entries)) 16 room)
-put-fits p n e g (some x) h f s room =
-    omega (arith, put-same n e x g (group-parts p g h .order) f s, leb-true (length (g .entries)) 16 (group-parts p g h .count))
+pub put-fits : (n : ℕ) (e : Entry) (g : GroupModel) (o : Option Entry) → rising entry-before (g .entries) ≡ true → length (g .entries) ≤ 16 → at-seqno n (g .entries) ≡ o →
+    e .id .seqno ≡ n → present o || ltb (length (g .entries)) 16 ≡ true → length (put entry-before e (g .entries)) ≤ 16
+put-fits n e g none rises few f s room = omega (arith, length-put entry-before e (g .entries), ltb-true (length (g .entries)) 16 room)
+put-fits n e g (some x) rises few f s room = omega (arith, put-same n e x g rises f s)
 
 pub group-change : (p : ShardIdent → Bool) (n : ℕ) (c : Option Entry) (g : GroupModel) → group-sound p g ≡ true → FitsAt p n c →
     present (at-seqno n (g .entries)) || ltb (length (g .entries)) 16 ≡ true → group-sound p (with-entries (changed-entries c (g .entries)) g) ≡ true
 group-change p n none g h f room = h
-group-change p n (some e) g h f room = group-put p e g h (f .0) (put-fits p n e g (at-seqno n (g .entries)) h refl (f .1) room)
+group-change p n (some e) g h f room =
+    let a = group-parts p g h in
+    group-put p e g h (f .0) (put-fits n e g (at-seqno n (g .entries)) (a .order) (leb-true (length (g .entries)) 16 (a .count)) refl (f .1) room)
 
 pub collated-fits : (p : ShardIdent → Bool) (c : BlockCandidate) (o : Option Entry) → p (id-shard (c .«block_id»)) ≡ true → entry-fits (fresh-collated c) ≡ true →
     FitsAt p (c .«block_id» .seqno) o → FitsAt p (c .«block_id» .seqno) (store-collated-at c o .change)

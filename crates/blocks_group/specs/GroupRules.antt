@@ -101,6 +101,11 @@ store-received-at zerostate r (some e) =
     (record { change = some (with-kind (received-kind (e .kind)) e); both = true; mismatch = false })
     (record { change = some (fresh-received zerostate r); both = false; mismatch = true })
 
+-- 7. After the Synced answer: is the place vacant or of the other kind?
+abbrev pub vacant-or : (Entry → Bool) → Option Entry → Bool
+vacant-or p none = true
+vacant-or p (some e) = p e
+
 -- ===== collect and remove next collated, in one group =====
 
 -- entries below the boundary
