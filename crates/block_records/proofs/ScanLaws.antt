@@ -14,7 +14,7 @@ use lib.ListN.{drop, drop-of-length-le, getD, length, length-append, length-set,
 use lib.Seq.{drop-append-add, drop-append-le, drop-cons, getD-take, length-take-le, set-at, set-set, set-split, take-nil, take-set-le, take-take}
 use Rattle.block_records.proofs.ArrayLaws.{length-spliced, length-within}
 use Rattle.block_records.proofs.ListLaws.{Order, all-weaken}
-use Rattle.block_records.proofs.LoopLaws.{left, left-more, left-passed, padded-nil, set-padded, take-more}
+use Rattle.block_records.proofs.LoopLaws.{left, left-more, left-over, left-passed, padded-nil, set-padded, take-more}
 use Rattle.block_records.proofs.Tests.{and-intro, and-left, and-right, iff-same, on}
 use Rattle.block_records.specs.Arrays.{overwritten, spliced}
 use Rattle.block_records.specs.Lists.{all, filter, find, last, padded, pick, present, put, rising}
@@ -98,6 +98,14 @@ module _ {A : Type 0} (lt : A → A → Bool) where
         on (ltb (i - 1) (length l))
         (λ u. let v = ltb-true (i - 1) (length l) u in rw (left-more l count (i - 1) d v m, left-passed l count (i - 1 + 1) (omega arith)))
         (λ u. let v = ltb-false (i - 1) (length l) u in rw (drop-of-length-le l {i = i - 1} v, take-nil (count - (i - 1)))))
+        (λ t. let m = ltb-false (i - 1) count t in rw (left-passed l count (i - 1) m))
+
+    -- the list ends: one at most is left
+    pub rise-over : 0 < i → i ≤ length l → length l ≤ i → neighbours (left l count (i - 1)) ≡ true
+    rise-over p h k =
+        let v : i - 1 < length l = omega arith in
+        on (ltb (i - 1) count)
+        (λ t. let m = ltb-true (i - 1) count t in rw (left-more l count (i - 1) d v m, left-over l count (i - 1 + 1) (omega arith)))
         (λ t. let m = ltb-false (i - 1) count t in rw (left-passed l count (i - 1) m))
 
 -- ===== a loop that moves the elements that pass together: after the first i of l, n are in `out` =====

@@ -3,32 +3,36 @@
 use mathlib.Core.Bool.{Bool, _&&_, false, true}
 use mathlib.Core.List.{List, [], _∷_}
 use mathlib.Core.Path.{_∙_, _≡_, ap, ap₂, refl, sym}
+use Prim.Native.Nat.{ℕ}
 use native.Mathlib.Omega.{arith}
-use borrow.Author.Tests.{le-leb}
-use lib.Dec.{leb}
+use borrow.Author.Tests.{eqb-true, le-leb}
+use lib.Dec.{eqb, leb}
 use lib.ListN.{length, take}
 use Rattle.block_records.specs.declared.block_id.ShardIdent.{ShardIdent}
 use Rattle.block_records.specs.declared.entry.BlockCacheEntry.{BlockCacheEntry}
 use Rattle.block_records.specs.declared.entry.MasterBlock.{MasterBlock}
 use Rattle.block_records.specs.declared.top_block.TopBlocks.{TopBlocks}
+use Rattle.blocks_group.specs.declared.group.Boundary.the-variants.{Absent as no-boundary}
 use Rattle.blocks_group.specs.declared.group.Group.{Group}
 use Rattle.blocks_group.specs.declared.group.MasterGroup.{MasterGroup}
+use Rattle.blocks_group.specs.declared.mark.Mark.the-variants.{Absent as no-mark}
 use Rattle.block_records.proofs.ListLaws.{length-each}
 use Rattle.block_records.proofs.QuestionLaws.{held-fits-is}
 use Rattle.block_records.proofs.SameLaws.{tops-same}
 use Rattle.block_records.proofs.Tests.{and-left, on}
-use Rattle.block_records.proofs.TidyLaws.{all-same}
+use Rattle.block_records.proofs.TidyLaws.{all-same, same-replicate}
 use Rattle.block_records.specs.BlockIds.{id-shard, is-masterchain, listed-tops}
 use Rattle.block_records.specs.Entries.{Entry}
 use Rattle.block_records.specs.EntryLayout.{entry-tidy, tops-tidy, view-entry, view-shard-entry}
+use Rattle.block_records.specs.Equality.{same-entry}
 use Rattle.block_records.specs.Lists.{all, each, padded, rising}
 use Rattle.block_records.specs.Questions.{entry-fits}
-use Rattle.block_records.specs.Zeros.{zero-tops}
+use Rattle.block_records.specs.Zeros.{zero-entry, zero-tops}
 use Rattle.blocks_group.proofs.GroupLayoutLaws.{group-same, master-group-same}
 use Rattle.blocks_group.proofs.GroupStepLaws.{listed-few, masters-entries, masters-length, masters-tops}
 use Rattle.blocks_group.proofs.TidyGroupLaws.{group-tidy-is, master-group-tidy-is}
 use Rattle.blocks_group.specs.GroupArrays.{beside, listed-entries, listed-masters, record-before}
-use Rattle.blocks_group.specs.GroupLayout.{group-tidy, master-group-tidy, pack-group, pack-master-group, sound-group, sound-master-group, view-group, view-master-group, view-masters}
+use Rattle.blocks_group.specs.GroupLayout.{group-tidy, is-zero-group, master-group-tidy, pack-group, pack-master-group, same-boundary, same-group, same-mark, sound-group, sound-master-group, view-group, view-master-group, view-masters, zero-group}
 use Rattle.blocks_group.specs.GroupParts.{boundary-held, group-in-parts, master-sound, masters-in-parts, record-sound, tops-zeros-from, zeros-from}
 use Rattle.blocks_group.specs.GroupRules.{entry-before}
 use Rattle.blocks_group.specs.GroupSoundness.{fits-in, group-sound}
@@ -152,3 +156,18 @@ sound-group-packed p g h = group-same .same-eq g (pack-group (view-group g)) (an
 
 pub sound-master-group-packed : (g : MasterGroup) → sound-master-group g ≡ true → g ≡ pack-master-group (view-master-group g)
 sound-master-group-packed g h = master-group-same .same-eq g (pack-master-group (view-master-group g)) (and-left (master-group-tidy g) (group-sound is-masterchain (view-master-group g)) h)
+
+-- ===== a group of zeros =====
+
+-- where the count is 0, zeros from the count on are zeros in every place
+pub zero-count : (n : ℕ) (m b : Bool) (zeros : ℕ → Bool) → eqb n 0 && (m && (b && zeros n)) ≡ eqb n 0 && (m && (b && zeros 0))
+zero-count n m b zeros = on (eqb n 0) (λ t. rw (eqb-true n 0 t)) (λ t. rw t)
+
+pub is-zero-group-parts : (g : Group) → length (g .entries) ≡ 16 →
+    is-zero-group g ≡ eqb (g .count) 0 && (same-mark (g .mark) no-mark && (same-boundary (g .boundary) no-boundary && zeros-from (g .count) (g .entries)))
+unfolding same-group zero-group
+is-zero-group-parts g l =
+    let m = same-mark (g .mark) no-mark in
+    let b = same-boundary (g .boundary) no-boundary in
+    ap (λ (z : Bool). eqb (g .count) 0 && (m && (b && z))) (same-replicate same-entry zero-entry 16 (g .entries) l)
+    ∙ sym (zero-count (g .count) m b (λ (n : ℕ). zeros-from n (g .entries)))

@@ -3,12 +3,15 @@ ghost use mathlib.Core.Path.{_≡_};
 ghost use Rattle.block_records.specs.BlockIds.{is-masterchain};
 ghost use Rattle.block_records.specs.Lists.{all, rising};
 ghost use Rattle.blocks_group.specs.GroupArrays.{beside, listed-entries, record-before};
-ghost use Rattle.blocks_group.specs.GroupLayout.{sound-group, sound-master-group};
+ghost use Rattle.blocks_group.specs.GroupLayout.{sound-group, sound-master-group, same-mark, same-boundary, is-zero-group};
+ghost use Rattle.blocks_group.specs.declared.mark.Mark.the-variants.{Absent as mark-absent};
+ghost use Rattle.blocks_group.specs.declared.group.Boundary.the-variants.{Absent as boundary-absent};
 ghost use Rattle.blocks_group.specs.GroupParts.{boundary-held, master-sound, record-sound, tops-zeros-from, zeros-from};
 ghost use Rattle.blocks_group.specs.GroupSoundness.{of-shard};
 use crate::group::Boundary;
 use crate::group::Group;
 use crate::group::MasterGroup;
+use crate::mark::Mark;
 use block_records::block_id::ShardIdent;
 use block_records::block_id::id_shard;
 use block_records::block_id::is_masterchain;
@@ -160,6 +163,38 @@ fn boundary_in_masterchain(boundary: Boundary) -> bool
             is_masterchain(own)
         }
     }
+}
+
+// ===== a group of zeros, as it stands in an unused place =====
+
+fn no_mark(mark: Mark) -> bool
+    ensures { λ r. ⌜ r ≡ same-mark mark mark-absent ⌝ }
+{
+    match mark {
+        Mark::Absent => true,
+        Mark::At(_) => false,
+    }
+}
+
+fn no_boundary(boundary: Boundary) -> bool
+    ensures { λ r. ⌜ r ≡ same-boundary boundary boundary-absent ⌝ }
+{
+    match boundary {
+        Boundary::Absent => true,
+        Boundary::At(_) => false,
+    }
+}
+
+pub fn is_zero_group(group: Group) -> bool
+    ensures { λ r. ⌜ r ≡ is-zero-group group ⌝ }
+{
+    let c = group.count == 0;
+    let mark = group.mark;
+    let m = no_mark(mark);
+    let boundary = group.boundary;
+    let b = no_boundary(boundary);
+    let z = entries_zero(group);
+    c & (m & (b & z))
 }
 
 // ===== question 1 =====

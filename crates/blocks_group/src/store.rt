@@ -208,8 +208,8 @@ fn received_step(
     let entry = block.entry;
     let data = entry.data;
     let kind = received_kind(data);
-    let both = with_block_data(block, kind);
-    stored_step(true, false, both)
+    let synced = with_block_data(block, kind);
+    stored_step(true, false, synced)
 }
 
 // ===== a shard's group =====

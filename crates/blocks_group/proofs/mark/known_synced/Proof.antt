@@ -23,7 +23,7 @@ enum-known-mark : tie.Need-enum-known-mark
 enum-known-mark c = search needs
 
 returns : tie.Need-returns
-returns c = search needs
+returns c = rw (c .enum-told .given .1)
 
 returns-2 : tie.Need-returns-2
 returns-2 c = search mark-given
