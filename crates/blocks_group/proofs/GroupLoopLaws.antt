@@ -7,7 +7,7 @@ use Prim.Native.Nat.{_+_, _-_, _<_, _≤_, suc, zero, ℕ}
 use native.Mathlib.Omega.{arith}
 use borrow.Author.Tests.{le-ltb, lt-ltb, ltb-true}
 use lib.Dec.{ltb}
-use lib.ListN.{drop-of-length-le, getD, length, take}
+use lib.ListN.{drop, drop-of-length-le, getD, length, take}
 use lib.Seq.{take-nil}
 use Rattle.block_records.specs.declared.entry.BlockCacheEntry.{BlockCacheEntry}
 use Rattle.block_records.specs.declared.entry.MasterBlock.{MasterBlock}
@@ -32,6 +32,41 @@ module _ {A : Type 0} (l : List A) (count i : ℕ) where
 
   pub left-over : length l ≤ i → left l count i ≡ []
   left-over h = rw (drop-of-length-le l {i = i} h, take-nil (count - i))
+
+-- ===== each of the first n passes one test, and each after them another =====
+
+drop-none : (A : Type 0) (n : ℕ) → _≡_ {A = List A} (drop n []) []
+drop-none A zero = refl
+drop-none A (suc n) = refl
+
+module _ {A : Type 0} (p z : A → Bool) where
+  abbrev pub placed : ℕ → List A → Bool
+  placed n xs = all p (take n xs) && all z (drop n xs)
+
+  module _ (l : List A) (count i : ℕ) where
+    pub placed-next : (d : A) → i < length l → i < count → p (getD l i d) ≡ true → placed (count - i) (drop i l) ≡ placed (count - (i + 1)) (drop (i + 1) l)
+    placed-next d h k t =
+        let e : count - i ≡ suc (count - (i + 1)) = omega arith in
+        rw (drop-next l i d h, e, t)
+
+    pub placed-stop : (d : A) → i < length l → i < count → p (getD l i d) ≡ false → placed (count - i) (drop i l) ≡ false
+    placed-stop d h k t =
+        let e : count - i ≡ suc (count - (i + 1)) = omega arith in
+        rw (drop-next l i d h, e, t)
+
+    pub placed-after : (d : A) → i < length l → count ≤ i → z (getD l i d) ≡ true → placed (count - i) (drop i l) ≡ placed (count - (i + 1)) (drop (i + 1) l)
+    placed-after d h k t =
+        let e : count - i ≡ 0 = omega arith in
+        let f : count - (i + 1) ≡ 0 = omega arith in
+        rw (drop-next l i d h, e, f, t)
+
+    pub placed-after-stop : (d : A) → i < length l → count ≤ i → z (getD l i d) ≡ false → placed (count - i) (drop i l) ≡ false
+    placed-after-stop d h k t =
+        let e : count - i ≡ 0 = omega arith in
+        rw (drop-next l i d h, e, t)
+
+    pub placed-over : length l ≤ i → placed (count - i) (drop i l) ≡ true
+    placed-over h = rw (drop-of-length-le l {i = i} h, take-nil (count - i), drop-none A (count - i))
 
 -- ===== seqnos rise: each above the one before it =====
 

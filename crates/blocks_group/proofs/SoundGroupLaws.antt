@@ -53,6 +53,13 @@ in-parts true true true true true r true b = refl
 in-parts true true true true true true false b = refl
 in-parts true true true true true false false b = refl
 
+-- the listed entries and the zeros in one pass
+pub places-first : (e r z b : Bool) → e && (r && (z && b)) ≡ (e && z) && (r && b)
+places-first false r z b = refl
+places-first true r true b = refl
+places-first true true false b = refl
+places-first true false false b = refl
+
 module _ {A : Type 0} where
   all-both : (p q : A → Bool) (xs : List A) → all p xs && all q xs ≡ all (λ (x : A). p x && q x) xs
   all-both p q [] = refl

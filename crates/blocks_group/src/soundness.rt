@@ -1,5 +1,6 @@
 // Document 01, question 1 of one group: order, counts and shards, its boundary, questions 2 to 4 of every entry, zeros in unused places.
 ghost use mathlib.Core.Path.{_≡_};
+ghost use mathlib.Core.Bool.{_&&_};
 ghost use Rattle.block_records.specs.BlockIds.{is-masterchain};
 ghost use Rattle.block_records.specs.Lists.{all, rising};
 ghost use Rattle.blocks_group.specs.GroupArrays.{beside, listed-entries, record-before};
@@ -35,16 +36,21 @@ fn entry_sound(entry: BlockCacheEntry, shard: ShardIdent) -> bool
     t & (s & f)
 }
 
-fn entries_sound(group: Group, shard: ShardIdent) -> bool
-    ensures { λ r. ⌜ r ≡ all (record-sound (of-shard shard)) (listed-entries group) ⌝ }
+// Each listed entry is sound, and zeros stand in the other places. One pass for both: a group that is passed on is copied.
+fn places_sound(group: Group, shard: ShardIdent) -> bool
+    ensures { λ r. ⌜ r ≡ all (record-sound (of-shard shard)) (listed-entries group) && zeros-from (group .count) (group .entries) ⌝ }
 {
     let count = group.count;
     let mut i: usize = 0;
     while i < 16 {
-        if count <= i {
-            return true;
-        }
         let entry = group.entries[i];
+        if count <= i {
+            if !is_zero_entry(entry) {
+                return false;
+            }
+            i += 1;
+            continue;
+        }
         if !entry_sound(entry, shard) {
             return false;
         }
@@ -168,12 +174,11 @@ pub fn sound_group(group: Group, shard: ShardIdent) -> bool
     ensures { λ r. ⌜ r ≡ sound-group (of-shard shard) group ⌝ }
 {
     let c = group.count <= 16;
-    let e = entries_sound(group, shard);
-    let o = seqnos_rise(group);
-    let z = entries_zero(group);
     let boundary = group.boundary;
     let b = boundary_in_shard(boundary, shard);
-    c & (e & (o & (z & b)))
+    let o = seqnos_rise(group);
+    let p = places_sound(group, shard);
+    c & (p & (o & b))
 }
 
 pub fn sound_master_group(masters: MasterGroup) -> bool
