@@ -1,6 +1,5 @@
 // Document 01, question 1 of one group: order, counts and shards, its boundary, questions 2 to 4 of every entry, zeros in unused places.
 ghost use mathlib.Core.Path.{_≡_};
-ghost use mathlib.Core.Bool.{_&&_};
 ghost use Rattle.block_records.specs.BlockIds.{is-masterchain};
 ghost use Rattle.block_records.specs.Lists.{all, rising};
 ghost use Rattle.blocks_group.specs.GroupArrays.{beside, listed-entries, record-before};
@@ -34,29 +33,6 @@ fn entry_sound(entry: BlockCacheEntry, shard: ShardIdent) -> bool
     let s = same_shard(own, shard);
     let f = shard_entry_fits(entry);
     t & (s & f)
-}
-
-// Each listed entry is sound, and zeros stand in the other places. One pass for both: a group that is passed on is copied.
-fn places_sound(group: Group, shard: ShardIdent) -> bool
-    ensures { λ r. ⌜ r ≡ all (record-sound (of-shard shard)) (listed-entries group) && zeros-from (group .count) (group .entries) ⌝ }
-{
-    let count = group.count;
-    let mut i: usize = 0;
-    while i < 16 {
-        let entry = group.entries[i];
-        if count <= i {
-            if !is_zero_entry(entry) {
-                return false;
-            }
-            i += 1;
-            continue;
-        }
-        if !entry_sound(entry, shard) {
-            return false;
-        }
-        i += 1;
-    }
-    true
 }
 
 // The same of a master with its top items.
@@ -170,15 +146,39 @@ fn boundary_in_masterchain(boundary: Boundary) -> bool
 
 // ===== question 1 =====
 
+// One pass: a group that is passed on would be copied.
 pub fn sound_group(group: Group, shard: ShardIdent) -> bool
     ensures { λ r. ⌜ r ≡ sound-group (of-shard shard) group ⌝ }
 {
-    let c = group.count <= 16;
+    let count = group.count;
+    if 16 < count {
+        return false;
+    }
     let boundary = group.boundary;
-    let b = boundary_in_shard(boundary, shard);
-    let o = seqnos_rise(group);
-    let p = places_sound(group, shard);
-    c & (p & (o & b))
+    if !boundary_in_shard(boundary, shard) {
+        return false;
+    }
+    let mut last: u32 = 0;
+    let mut i: usize = 0;
+    while i < 16 {
+        let entry = group.entries[i];
+        if count <= i {
+            if !is_zero_entry(entry) {
+                return false;
+            }
+            i += 1;
+            continue;
+        }
+        if !entry_sound(entry, shard) {
+            return false;
+        }
+        if (entry.block_id.seqno <= last) & (0 < i) {
+            return false;
+        }
+        last = entry.block_id.seqno;
+        i += 1;
+    }
+    true
 }
 
 pub fn sound_master_group(masters: MasterGroup) -> bool
