@@ -40,6 +40,10 @@ and-true : (a : Bool) → a && true ≡ a
 and-true true = refl
 and-true false = refl
 
+pub and-false : (a : Bool) → a && false ≡ false
+and-false true = refl
+and-false false = refl
+
 -- the order in which the definition and the code ask: count, tidy entries, zeros, tidy tops, zero tops | order, fit, boundary
 in-parts : (c t z i y r f b : Bool) → ((c && (t && z)) && (i && y)) && (true && (r && (f && b))) ≡ c && ((t && (i && f)) && (r && (z && (y && b))))
 in-parts false t z i y r f b = refl
@@ -122,10 +126,6 @@ module _ (p : ShardIdent → Bool) (g : Group) (long : length (g .entries) ≡ 1
       ∙ ap (λ (y : Bool). leb (g .count) 16 && (all (record-sound p) l && (rising record-before l && (zeros-from (g .count) (g .entries) && y)))) b
       ∙ none (leb (g .count) 16) (all (record-sound p) l) (rising record-before l) (zeros-from (g .count) (g .entries))
     where
-      and-false : (a : Bool) → a && false ≡ false
-      and-false true = refl
-      and-false false = refl
-
       none : (a b c d : Bool) → a && (b && (c && (d && false))) ≡ false
       none a b c d = rw (and-false d, and-false c, and-false b) (and-false a)
 
