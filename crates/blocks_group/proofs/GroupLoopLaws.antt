@@ -1,18 +1,19 @@
 -- One turn of a loop over a group's listed entries: what is left at place i decides.
 -- Assumes nothing.
-use mathlib.Core.Bool.{Bool, _&&_, false, true}
+use mathlib.Core.Bool.{Bool, _&&_, _||_, false, true}
 use mathlib.Core.List.{List, [], _∷_}
 use mathlib.Core.Path.{_∙_, _≡_, ap, refl, sym}
 use Prim.Native.Nat.{_+_, _-_, _<_, _≤_, suc, zero, ℕ}
 use native.Mathlib.Omega.{arith}
-use borrow.Author.Tests.{le-ltb, lt-ltb, ltb-true}
-use lib.Dec.{ltb}
-use lib.ListN.{getD, length, take}
+use borrow.Author.Tests.{eq-eqb, le-ltb, leb-false, leb-true, lt-ltb, ltb-false, ltb-true, ne-eqb}
+use lib.Dec.{eqb, leb, ltb}
+use lib.ListN.{drop, drop-of-length-le, getD, length, take}
 use Rattle.block_records.specs.declared.entry.BlockCacheEntry.{BlockCacheEntry}
 use Rattle.block_records.specs.declared.entry.MasterBlock.{MasterBlock}
 use Rattle.block_records.specs.declared.top_block.TopBlocks.{TopBlocks}
 use Rattle.block_records.proofs.ListLaws.{all-weaken}
-use Rattle.block_records.proofs.LoopLaws.{count-next, count-stop, left, left-more, left-over, left-passed}
+use Rattle.block_records.proofs.LoopLaws.{count-next, count-stop, drop-next, left, left-more, left-over, left-passed, rest-next, rest-stop}
+use Rattle.block_records.proofs.Tests.{and-intro, and-left, and-right, clash, on}
 use Rattle.block_records.specs.Lists.{all, rising}
 use Rattle.blocks_group.specs.GroupArrays.{beside}
 
@@ -54,6 +55,98 @@ module _ {A : Type 0} (f : A → ℕ) where
 
     pub rises-over : length l ≤ i → rises-from lo (left l count i) ≡ true
     rises-over h = rw (left-over l count i h)
+
+-- ===== each of the first n passes one test and they rise; each after them passes another =====
+
+module _ {A : Type 0} (p z : A → Bool) (f : A → ℕ) where
+  -- what a loop tests: each of the first n rises from lo, the one before it, but for the first of all
+  abbrev pub walked : ℕ → Bool → ℕ → List A → Bool
+  walked n first lo [] = true
+  walked zero first lo (x ∷ xs) = z x && walked zero first lo xs
+  walked (suc n) first lo (x ∷ xs) = p x && ((first || ltb lo (f x)) && walked n false (f x) xs)
+
+  walked-zeros : (first : Bool) (lo : ℕ) (xs : List A) → walked zero first lo xs ≡ all z xs
+  walked-zeros first lo [] = refl
+  walked-zeros first lo (x ∷ xs) = ap (λ (b : Bool). z x && b) (walked-zeros first lo xs)
+
+  walked-after : (n lo : ℕ) (xs : List A) → walked n false lo xs ≡ all p (take n xs) && (rises-from f lo (take n xs) && all z (drop n xs))
+  walked-after zero lo xs = walked-zeros false lo xs
+  walked-after (suc n) lo [] = refl
+  walked-after (suc n) lo (x ∷ xs) =
+      ap (λ (b : Bool). p x && (ltb lo (f x) && b)) (walked-after n (f x) xs)
+      ∙ apart (p x) (ltb lo (f x)) (all p (take n xs)) (rises-from f (f x) (take n xs)) (all z (drop n xs))
+    where
+      apart : (a l s r y : Bool) → a && (l && (s && (r && y))) ≡ (a && s) && ((l && r) && y)
+      apart false l s r y = refl
+      apart true true s r y = refl
+      apart true false true r y = refl
+      apart true false false r y = refl
+
+  pub walked-all : (n lo : ℕ) (xs : List A) → walked n true lo xs ≡ all p (take n xs) && (rising (λ (x y : A). ltb (f x) (f y)) (take n xs) && all z (drop n xs))
+  walked-all zero lo xs = walked-zeros true lo xs
+  walked-all (suc n) lo [] = refl
+  walked-all (suc n) lo (x ∷ xs) =
+      ap (λ (b : Bool). p x && b) (walked-after n (f x) xs ∙ ap (λ (r : Bool). all p (take n xs) && (r && all z (drop n xs))) (rises-is f (f x) (take n xs)))
+      ∙ assoc (p x) (all p (take n xs)) (rising (λ (x y : A). ltb (f x) (f y)) (x ∷ take n xs) && all z (drop n xs))
+    where
+      assoc : (a b c : Bool) → a && (b && c) ≡ (a && b) && c
+      assoc true b c = refl
+      assoc false b c = refl
+
+  module _ (l : List A) (count i lo : ℕ) where
+    abbrev pub walk : Bool
+    walk = walked (count - i) (eqb i 0) lo (drop i l)
+
+    in-order : (n : ℕ) → leb n lo && ltb 0 i ≡ false → eqb i 0 || ltb lo n ≡ true
+    in-order n e =
+        on (ltb 0 i)
+        (λ t.
+        let u : leb n lo ≡ false = on (leb n lo) (λ v. clash (and-intro v t) e) (λ v. v) in
+        let m = leb-false n lo u in
+        rw (lt-ltb lo n (omega arith)) (or-true (eqb i 0)))
+        (λ t. let m = ltb-false 0 i t in rw (eq-eqb i 0 (omega arith)))
+      where
+        or-true : (b : Bool) → b || true ≡ true
+        or-true true = refl
+        or-true false = refl
+
+    out-of-order : (n : ℕ) → leb n lo && ltb 0 i ≡ true → eqb i 0 || ltb lo n ≡ false
+    out-of-order n e =
+        let t = ltb-true 0 i (and-right (leb n lo) (ltb 0 i) e) in
+        let u = leb-true n lo (and-left (leb n lo) (ltb 0 i) e) in
+        rw (ne-eqb i 0 (λ q. omega arith), le-ltb lo n u)
+
+    module _ (d : A) (h : i < length l) where
+      pub walk-next : i < count → p (getD l i d) ≡ true → leb (f (getD l i d)) lo && ltb 0 i ≡ false →
+          walk ≡ walked (count - (i + 1)) (eqb (i + 1) 0) (f (getD l i d)) (drop (i + 1) l)
+      walk-next k t o =
+          let e : count - i ≡ suc (count - (i + 1)) = omega arith in
+          rw (drop-next l i d h, e, t, in-order (f (getD l i d)) o, ne-eqb (i + 1) 0 (λ q. omega arith))
+
+      pub walk-stop : i < count → p (getD l i d) ≡ false → walk ≡ false
+      walk-stop k t =
+          let e : count - i ≡ suc (count - (i + 1)) = omega arith in
+          rw (drop-next l i d h, e, t)
+
+      pub walk-falls : i < count → p (getD l i d) ≡ true → leb (f (getD l i d)) lo && ltb 0 i ≡ true → walk ≡ false
+      walk-falls k t o =
+          let e : count - i ≡ suc (count - (i + 1)) = omega arith in
+          rw (drop-next l i d h, e, t, out-of-order (f (getD l i d)) o)
+
+      pub walk-zero : count ≤ i → z (getD l i d) ≡ true → walk ≡ walked (count - (i + 1)) (eqb (i + 1) 0) lo (drop (i + 1) l)
+      walk-zero k t =
+          let e : count - i ≡ 0 = omega arith in
+          let g : count - (i + 1) ≡ 0 = omega arith in
+          ap (λ (n : ℕ). walked n (eqb i 0) lo (drop i l)) e ∙ walked-zeros (eqb i 0) lo (drop i l) ∙ rest-next z d l i h t
+          ∙ sym (ap (λ (n : ℕ). walked n (eqb (i + 1) 0) lo (drop (i + 1) l)) g ∙ walked-zeros (eqb (i + 1) 0) lo (drop (i + 1) l))
+
+      pub walk-not-zero : count ≤ i → z (getD l i d) ≡ false → walk ≡ false
+      walk-not-zero k t =
+          let e : count - i ≡ 0 = omega arith in
+          ap (λ (n : ℕ). walked n (eqb i 0) lo (drop i l)) e ∙ walked-zeros (eqb i 0) lo (drop i l) ∙ rest-stop z d l i h t
+
+    pub walk-over : length l ≤ i → walk ≡ true
+    walk-over h = rw (drop-of-length-le l {i = i} h)
 
 -- ===== entries with the top items beside them =====
 

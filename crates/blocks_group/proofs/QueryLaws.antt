@@ -1,7 +1,7 @@
 -- On a packed group, what pop, peek, collect and remove next collated ask is what the rules say of the model; and that the ids which go with the
 -- removed masters are those by the highest, resp. the lowest, of their seqnos.
 -- Assumes nothing.
-use mathlib.Core.Bool.{Bool, _&&_, false, not, true}
+use mathlib.Core.Bool.{Bool, _&&_, not, true}
 use mathlib.Core.List.{List, [], _++_, _∷_}
 use mathlib.Core.Option.{Option, Option·map, none, some}
 use mathlib.Core.Path.{_∙_, _≡_, ap, ap₂, refl, sym}
@@ -27,6 +27,7 @@ use Rattle.blocks_group.proofs.GroupLaws.{entry-seqno}
 use Rattle.blocks_group.proofs.GroupLayoutLaws.{take-padded-each}
 use Rattle.blocks_group.proofs.LookupLaws.{find-each}
 use Rattle.blocks_group.proofs.SearchLaws.{next-place}
+use Rattle.blocks_group.proofs.SoundGroupLaws.{and-false}
 use Rattle.blocks_group.specs.GroupArrays.{answered-master, at-place, beside, listed-entries, listed-masters, record-seqno, when-found}
 use Rattle.blocks_group.specs.GroupLayout.{pack-boundary, pack-group, pack-master-group}
 use Rattle.blocks_group.specs.GroupQueries.{any-applied-above, below-held-boundary, chosen, collect-group, collect-masters, collected-by, first-applied-master, first-applied-place, first-place, higher-of, highest-below-boundary, highest-seqno, lower-of, lowest-collated-above, lowest-seqno, masters-collected-by, pack-seqno, record-applied-above, record-applied-from, record-collated-above, remove-collated-above, remove-collated-masters-above, seqnos-of}
@@ -154,10 +155,6 @@ module _ (m : GroupModel) where
 abbrev pub kept-by : {I : Type 0} → (ℕ → I → Bool) → Option ℕ → List I → List I
 kept-by stays none ids = ids
 kept-by stays (some n) ids = filter (stays n) ids
-
-and-false : (a : Bool) → a && false ≡ false
-and-false true = refl
-and-false false = refl
 
 module _ {I : Type 0} where
   filter-twice : (p q r : I → Bool) → ((i : I) → q i && p i ≡ r i) → (ids : List I) → filter p (filter q ids) ≡ filter r ids

@@ -2,10 +2,11 @@
 -- Assumes nothing.
 use mathlib.Core.Bool.{Bool, _&&_, false, true}
 use mathlib.Core.List.{List, [], _∷_}
+use mathlib.Core.Option.{none}
 use mathlib.Core.Path.{_∙_, _≡_, ap, ap₂, refl, sym}
-use Prim.Native.Nat.{ℕ}
+use Prim.Native.Nat.{_<_, _≤_, ℕ}
 use native.Mathlib.Omega.{arith}
-use borrow.Author.Tests.{eqb-true, le-leb}
+use borrow.Author.Tests.{eqb-true, le-leb, lt-leb}
 use lib.Dec.{eqb, leb}
 use lib.ListN.{length, take}
 use Rattle.block_records.specs.declared.block_id.ShardIdent.{ShardIdent}
@@ -27,11 +28,12 @@ use Rattle.block_records.specs.EntryLayout.{entry-tidy, tops-tidy, view-entry, 
 use Rattle.block_records.specs.Equality.{same-entry}
 use Rattle.block_records.specs.Lists.{all, each, padded, rising}
 use Rattle.block_records.specs.Questions.{entry-fits}
-use Rattle.block_records.specs.Zeros.{zero-entry, zero-tops}
+use Rattle.block_records.specs.Zeros.{is-zero-entry, zero-entry, zero-tops}
 use Rattle.blocks_group.proofs.GroupLayoutLaws.{group-same, master-group-same}
+use Rattle.blocks_group.proofs.GroupLoopLaws.{walked, walked-all}
 use Rattle.blocks_group.proofs.GroupStepLaws.{listed-few, masters-entries, masters-length, masters-tops}
 use Rattle.blocks_group.proofs.TidyGroupLaws.{group-tidy-is, master-group-tidy-is}
-use Rattle.blocks_group.specs.GroupArrays.{beside, listed-entries, listed-masters, record-before}
+use Rattle.blocks_group.specs.GroupArrays.{beside, listed-entries, listed-masters, record-before, record-seqno}
 use Rattle.blocks_group.specs.GroupLayout.{group-tidy, is-zero-group, master-group-tidy, pack-group, pack-master-group, same-boundary, same-group, same-mark, sound-group, sound-master-group, view-group, view-master-group, view-masters, zero-group}
 use Rattle.blocks_group.specs.GroupParts.{boundary-held, group-in-parts, master-sound, masters-in-parts, record-sound, tops-zeros-from, zeros-from}
 use Rattle.blocks_group.specs.GroupRules.{entry-before}
@@ -40,6 +42,10 @@ use Rattle.blocks_group.specs.GroupSoundness.{fits-in, group-sound}
 and-true : (a : Bool) → a && true ≡ a
 and-true true = refl
 and-true false = refl
+
+pub and-false : (a : Bool) → a && false ≡ false
+and-false true = refl
+and-false false = refl
 
 -- the order in which the definition and the code ask: count, tidy entries, zeros, tidy tops, zero tops | order, fit, boundary
 in-parts : (c t z i y r f b : Bool) → ((c && (t && z)) && (i && y)) && (true && (r && (f && b))) ≡ c && ((t && (i && f)) && (r && (z && (y && b))))
@@ -102,6 +108,29 @@ sound-group-parts p g long =
     ∙ ap (λ (m : Bool). ((leb (g .count) 16 && (all entry-tidy l && zeros-from (g .count) (g .entries))) && true) && (m && (rising entry-before (each view-shard-entry l) && (all (fits-in p) (each view-shard-entry l) && boundary-held p (g .boundary))))) n
     ∙ in-parts (leb (g .count) 16) (all entry-tidy l) (zeros-from (g .count) (g .entries)) true true (rising entry-before (each view-shard-entry l)) (all (fits-in p) (each view-shard-entry l)) (boundary-held p (g .boundary))
     ∙ ap₂ (λ (a r : Bool). leb (g .count) 16 && (a && (r && (zeros-from (g .count) (g .entries) && boundary-held p (g .boundary))))) e (rising-image view-shard-entry entry-before l)
+
+-- with the count and the boundary right, what the loop over the places tests
+module _ (p : ShardIdent → Bool) (g : Group) (long : length (g .entries) ≡ 16) where
+  pub sound-by-walk : g .count ≤ 16 → boundary-held p (g .boundary) ≡ true → sound-group p g ≡ walked (record-sound p) is-zero-entry record-seqno (g .count) true 0 (g .entries)
+  sound-by-walk c b =
+      let l = listed-entries g in
+      sound-group-parts p g long
+      ∙ ap₂ (λ (x y : Bool). x && (all (record-sound p) l && (rising record-before l && (zeros-from (g .count) (g .entries) && y)))) (le-leb (g .count) 16 c) b
+      ∙ ap (λ (x : Bool). all (record-sound p) l && (rising record-before l && x)) (and-true (zeros-from (g .count) (g .entries)))
+      ∙ sym (walked-all (record-sound p) is-zero-entry record-seqno (g .count) 0 (g .entries))
+
+  pub unsound-count : 16 < g .count → sound-group p g ≡ false
+  unsound-count c = sound-group-parts p g long ∙ rw (lt-leb (g .count) 16 c)
+
+  pub unsound-boundary : boundary-held p (g .boundary) ≡ false → sound-group p g ≡ false
+  unsound-boundary b =
+      let l = listed-entries g in
+      sound-group-parts p g long
+      ∙ ap (λ (y : Bool). leb (g .count) 16 && (all (record-sound p) l && (rising record-before l && (zeros-from (g .count) (g .entries) && y)))) b
+      ∙ none (leb (g .count) 16) (all (record-sound p) l) (rising record-before l) (zeros-from (g .count) (g .entries))
+    where
+      none : (a b c d : Bool) → a && (b && (c && (d && false))) ≡ false
+      none a b c d = rw (and-false d, and-false c, and-false b) (and-false a)
 
 -- ===== the master group =====
 

@@ -38,24 +38,6 @@ fn entry_sound(entry: BlockCacheEntry, shard: ShardIdent) -> bool
     t & (s & f)
 }
 
-fn entries_sound(group: Group, shard: ShardIdent) -> bool
-    ensures { λ r. ⌜ r ≡ all (record-sound (of-shard shard)) (listed-entries group) ⌝ }
-{
-    let count = group.count;
-    let mut i: usize = 0;
-    while i < 16 {
-        if count <= i {
-            return true;
-        }
-        let entry = group.entries[i];
-        if !entry_sound(entry, shard) {
-            return false;
-        }
-        i += 1;
-    }
-    true
-}
-
 // The same of a master with its top items.
 fn master_sound(entry: BlockCacheEntry, tops: TopBlocks) -> bool
     ensures { λ r. ⌜ r ≡ master-sound (record { entry = entry; tops = tops }) ⌝ }
@@ -199,16 +181,39 @@ pub fn is_zero_group(group: Group) -> bool
 
 // ===== question 1 =====
 
+// One pass: a group that is passed on would be copied.
 pub fn sound_group(group: Group, shard: ShardIdent) -> bool
     ensures { λ r. ⌜ r ≡ sound-group (of-shard shard) group ⌝ }
 {
-    let c = group.count <= 16;
-    let e = entries_sound(group, shard);
-    let o = seqnos_rise(group);
-    let z = entries_zero(group);
+    let count = group.count;
+    if 16 < count {
+        return false;
+    }
     let boundary = group.boundary;
-    let b = boundary_in_shard(boundary, shard);
-    c & (e & (o & (z & b)))
+    if !boundary_in_shard(boundary, shard) {
+        return false;
+    }
+    let mut last: u32 = 0;
+    let mut i: usize = 0;
+    while i < 16 {
+        let entry = group.entries[i];
+        if count <= i {
+            if !is_zero_entry(entry) {
+                return false;
+            }
+            i += 1;
+            continue;
+        }
+        if !entry_sound(entry, shard) {
+            return false;
+        }
+        if (entry.block_id.seqno <= last) & (0 < i) {
+            return false;
+        }
+        last = entry.block_id.seqno;
+        i += 1;
+    }
+    true
 }
 
 pub fn sound_master_group(masters: MasterGroup) -> bool
