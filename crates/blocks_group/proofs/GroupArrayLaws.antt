@@ -33,14 +33,14 @@ use Rattle.blocks_group.specs.GroupRules.{GroupModel, at-seqno, below-bo
 
 -- ===== what is listed in a packed group =====
 
-listed-packed : (m : GroupModel) → listed-entries (pack-group m) ≡ each pack-entry (m .entries)
+pub listed-packed : (m : GroupModel) → listed-entries (pack-group m) ≡ each pack-entry (m .entries)
 listed-packed m = take-padded-each 16 zero-entry pack-entry (m .entries)
 
 beside-packed : (es : List Entry) (rest : List TopBlocks) → beside (each pack-entry es) (each entry-tops es ++ rest) ≡ each pack-master es
 beside-packed [] rest = refl
 beside-packed (e ∷ es) rest = ap (λ (r : List MasterBlock). pack-master e ∷ r) (beside-packed es rest)
 
-masters-packed : (m : GroupModel) → listed-masters (pack-master-group m) ≡ each pack-master (m .entries)
+pub masters-packed : (m : GroupModel) → listed-masters (pack-master-group m) ≡ each pack-master (m .entries)
 unfolding padded
 masters-packed m =
     ap (λ (bs : List BlockCacheEntry). beside bs (padded 16 zero-tops (each entry-tops (m .entries)))) (listed-packed m)

@@ -18,6 +18,11 @@ use Rattle.blocks_group.proofs.SearchLaws.{next-place, place-cons}
 use Rattle.blocks_group.specs.GroupArrays.{at-place, when-found}
 use Rattle.blocks_group.specs.Search.{place}
 
+-- what stands at a place is found one place further with an element more in front
+pub at-next : {A : Type 0} (z x : A) (xs : List A) (p : Found) → when-found (next-place p) (at-place z (x ∷ xs) (next-place p)) ≡ when-found p (at-place z xs p)
+at-next z x xs (found-at k) = refl
+at-next z x xs (vacant-at k) = refl
+
 module _ {A B : Type 0} where
   -- a test of the images that says what a test of the elements says
   pub find-each : (f : A → B) (p : A → Bool) (q : B → Bool) → ((x : A) → q (f x) ≡ p x) → (xs : List A) → find q (each f xs) ≡ Option·map f (find p xs)
@@ -48,10 +53,6 @@ module _ {A : Type 0} (f : A → ℕ) where
       (λ y t. let m = ltb-true (f x) (f y) t in rw (ne-eqb (f y) n (λ e. omega arith))) h)
 
   -- ===== the search answers with what stands at the number =====
-
-  at-next : (z x : A) (xs : List A) (p : Found) → when-found (next-place p) (at-place z (x ∷ xs) (next-place p)) ≡ when-found p (at-place z xs p)
-  at-next z x xs (found-at k) = refl
-  at-next z x xs (vacant-at k) = refl
 
   pub place-finds : (n : ℕ) (z : A) (xs : List A) → rising by-f xs ≡ true → when-found (place n (each f xs)) (at-place z xs (place n (each f xs))) ≡ find (λ (y : A). eqb (f y) n) xs
   unfolding place

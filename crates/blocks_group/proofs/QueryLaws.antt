@@ -2,51 +2,33 @@
 -- removed masters are those by the highest, resp. the lowest, of their seqnos.
 -- Assumes nothing.
 use mathlib.Core.Bool.{Bool, _&&_, not, true}
-use mathlib.Core.List.{List, [], _++_, _∷_}
+use mathlib.Core.List.{List, [], _∷_}
 use mathlib.Core.Option.{Option, Option·map, none, some}
 use mathlib.Core.Path.{_∙_, _≡_, ap, ap₂, refl, sym}
-use Prim.Native.Nat.{_-_, suc, ℕ}
+use Prim.Native.Nat.{suc, ℕ}
 use native.Mathlib.Omega.{arith}
 use borrow.Author.Tests.{le-leb, leb-true, lt-ltb, ltb-false, ltb-true}
 use lib.Dec.{leb, ltb}
-use lib.ListN.{length, replicate}
 use Rattle.block_records.specs.declared.block_id.BlockIdShort.{BlockIdShort}
 use Rattle.block_records.specs.declared.entry.BlockCacheEntry.{BlockCacheEntry}
 use Rattle.block_records.specs.declared.entry.MasterBlock.{MasterBlock}
-use Rattle.block_records.specs.declared.top_block.TopBlocks.{TopBlocks}
 use Rattle.blocks_group.specs.declared.search.Found.{Found}
-use Rattle.blocks_group.specs.declared.search.Found.the-variants.{At as found-at, Vacant as vacant-at}
+use Rattle.blocks_group.specs.declared.search.Found.the-variants.{At as found-at}
 use Rattle.block_records.proofs.ArrayLaws.{each-each, each-filter}
 use Rattle.block_records.proofs.Tests.{on}
 use Rattle.block_records.specs.Entries.{Entry, is-applied}
-use Rattle.block_records.specs.EntryLayout.{entry-tops, pack-entry, pack-master}
-use Rattle.block_records.specs.Lists.{each, filter, find, fold, padded, pick, present}
-use Rattle.block_records.specs.Zeros.{zero-entry, zero-master, zero-tops}
-use Rattle.blocks_group.proofs.GroupArrayLaws.{collected-masters-packed, collected-packed, without-collated-above-packed, without-collated-masters-above-packed}
+use Rattle.block_records.specs.EntryLayout.{pack-entry, pack-master}
+use Rattle.block_records.specs.Lists.{each, filter, find, fold, pick, present}
+use Rattle.block_records.specs.Zeros.{zero-master}
+use Rattle.blocks_group.proofs.GroupArrayLaws.{collected-masters-packed, collected-packed, listed-packed, masters-packed, without-collated-above-packed, without-collated-masters-above-packed}
 use Rattle.blocks_group.proofs.GroupLaws.{entry-seqno}
-use Rattle.blocks_group.proofs.GroupLayoutLaws.{take-padded-each}
-use Rattle.blocks_group.proofs.LookupLaws.{find-each}
+use Rattle.blocks_group.proofs.LookupLaws.{at-next, find-each}
 use Rattle.blocks_group.proofs.SearchLaws.{next-place}
 use Rattle.blocks_group.proofs.SoundGroupLaws.{and-false}
-use Rattle.blocks_group.specs.GroupArrays.{answered-master, at-place, beside, listed-entries, listed-masters, record-seqno, when-found}
+use Rattle.blocks_group.specs.GroupArrays.{answered-master, at-place, record-seqno, when-found}
 use Rattle.blocks_group.specs.GroupLayout.{pack-boundary, pack-group, pack-master-group}
 use Rattle.blocks_group.specs.GroupQueries.{any-applied-above, below-held-boundary, chosen, collect-group, collect-masters, collected-by, first-applied-master, first-applied-place, first-place, higher-of, highest-below-boundary, highest-seqno, lower-of, lowest-collated-above, lowest-seqno, masters-collected-by, pack-seqno, record-applied-above, record-applied-from, record-collated-above, remove-collated-above, remove-collated-masters-above, seqnos-of}
 use Rattle.blocks_group.specs.GroupRules.{GroupModel, below-boundary, collated-above, collected, with-entries, without-collated-above}
-
--- ===== what is listed in a packed group =====
-
-listed : (m : GroupModel) → listed-entries (pack-group m) ≡ each pack-entry (m .entries)
-listed m = take-padded-each 16 zero-entry pack-entry (m .entries)
-
-beside-each : (es : List Entry) (rest : List TopBlocks) → beside (each pack-entry es) (each entry-tops es ++ rest) ≡ each pack-master es
-beside-each [] rest = refl
-beside-each (e ∷ es) rest = ap (λ (r : List MasterBlock). pack-master e ∷ r) (beside-each es rest)
-
-listed-with-tops : (m : GroupModel) → listed-masters (pack-master-group m) ≡ each pack-master (m .entries)
-unfolding padded
-listed-with-tops m =
-    ap (λ (bs : List BlockCacheEntry). beside bs (padded 16 zero-tops (each entry-tops (m .entries)))) (listed m)
-    ∙ beside-each (m .entries) (replicate (16 - length (each entry-tops (m .entries))) zero-tops)
 
 -- ===== applied entries =====
 
@@ -62,10 +44,6 @@ module _ {A : Type 0} where
   first-shifted p i [] = refl
   first-shifted p i (x ∷ xs) = on (p x) (λ t. rw t) (λ t. rw t (first-shifted p (suc i) xs))
 
-  further : (z x : A) (xs : List A) (p : Found) → when-found (next-place p) (at-place z (x ∷ xs) (next-place p)) ≡ when-found p (at-place z xs p)
-  further z x xs (found-at k) = refl
-  further z x xs (vacant-at k) = refl
-
 module _ {A B : Type 0} where
   first-image : (f : A → B) (p : A → Bool) (q : B → Bool) → ((x : A) → q (f x) ≡ p x) → (i : ℕ) (xs : List A) → first-place q i (each f xs) ≡ first-place p i xs
   first-image f p q same i [] = refl
@@ -79,13 +57,13 @@ module _ {A B : Type 0} where
   first-finds f p z (x ∷ xs) =
       on (p x)
       (λ t. rw t)
-      (λ t. rw (t, first-shifted p 0 xs) (further z (f x) (each f xs) (first-place p 0 xs) ∙ first-finds f p z xs))
+      (λ t. rw (t, first-shifted p 0 xs) (at-next z (f x) (each f xs) (first-place p 0 xs) ∙ first-finds f p z xs))
 
 pub first-applied-packed : (f : ℕ) (m : GroupModel) → answered-master (first-applied-master f (pack-master-group m)) ≡ Option·map pack-master (find (entry-applied-from f) (m .entries))
 first-applied-packed f m =
     let e : first-applied-place f (pack-group m) ≡ first-place (entry-applied-from f) 0 (m .entries) =
-    ap (first-place (record-applied-from f) 0) (listed m) ∙ first-image pack-entry (entry-applied-from f) (record-applied-from f) (λ e. refl) 0 (m .entries) in
-    ap₂ (λ (p : Found) (bs : List MasterBlock). when-found p (at-place zero-master bs p)) e (listed-with-tops m) ∙ first-finds pack-master (entry-applied-from f) zero-master (m .entries)
+    ap (first-place (record-applied-from f) 0) (listed-packed m) ∙ first-image pack-entry (entry-applied-from f) (record-applied-from f) (λ e. refl) 0 (m .entries) in
+    ap₂ (λ (p : Found) (bs : List MasterBlock). when-found p (at-place zero-master bs p)) e (masters-packed m) ∙ first-finds pack-master (entry-applied-from f) zero-master (m .entries)
 
 present-map : {A B : Type 0} (f : A → B) (o : Option A) → present (Option·map f o) ≡ present o
 present-map f none = refl
@@ -93,7 +71,7 @@ present-map f (some a) = refl
 
 pub applied-above-packed : (n : ℕ) (m : GroupModel) → any-applied-above n (pack-group m) ≡ present (find (entry-applied-above n) (m .entries))
 applied-above-packed n m =
-    ap (λ (bs : List BlockCacheEntry). present (find (record-applied-above n) bs)) (listed m)
+    ap (λ (bs : List BlockCacheEntry). present (find (record-applied-above n) bs)) (listed-packed m)
     ∙ ap present (find-each pack-entry (entry-applied-above n) (record-applied-above n) (λ e. refl) (m .entries))
     ∙ present-map pack-entry (find (entry-applied-above n) (m .entries))
 
@@ -102,7 +80,7 @@ applied-above-packed n m =
 module _ (p : Entry → Bool) (q : BlockCacheEntry → Bool) (same : (e : Entry) → q (pack-entry e) ≡ p e) (m : GroupModel) where
   seqnos-packed : seqnos-of q (pack-group m) ≡ each entry-seqno (filter p (m .entries))
   seqnos-packed =
-      ap (λ (bs : List BlockCacheEntry). each record-seqno (filter q bs)) (listed m) ∙ ap (each record-seqno) (each-filter pack-entry p q same (m .entries))
+      ap (λ (bs : List BlockCacheEntry). each record-seqno (filter q bs)) (listed-packed m) ∙ ap (each record-seqno) (each-filter pack-entry p q same (m .entries))
       ∙ each-each record-seqno pack-entry (filter p (m .entries))
 
 below-same : (o : Option BlockIdShort) (e : Entry) → below-held-boundary (pack-boundary o) (pack-entry e) ≡ below-boundary o e
