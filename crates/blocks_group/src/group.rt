@@ -108,16 +108,10 @@ pub fn entry_at(group: Group, seqno: u32) -> EntryAt
     let found = find(group, seqno);
     let Found::At(at) = found else {
         let zero = zero_entry();
-        return EntryAt {
-            found: found,
-            entry: zero,
-        };
+        return EntryAt { found, entry: zero };
     };
     let entry = group.entries[at];
-    EntryAt {
-        found: found,
-        entry: entry,
-    }
+    EntryAt { found, entry }
 }
 
 // The master block at a seqno.
@@ -128,21 +122,12 @@ pub fn master_at(masters: MasterGroup, seqno: u32) -> MasterAt
     let found = find(group, seqno);
     let Found::At(at) = found else {
         let zero = zero_master();
-        return MasterAt {
-            found: found,
-            block: zero,
-        };
+        return MasterAt { found, block: zero };
     };
     let entry = group.entries[at];
     let tops = masters.tops[at];
-    let block = MasterBlock {
-        entry: entry,
-        tops: tops,
-    };
-    MasterAt {
-        found: found,
-        block: block,
-    }
+    let block = MasterBlock { entry, tops };
+    MasterAt { found, block }
 }
 
 // The first `at` entries, the given one, and those of place `from` on.
@@ -170,8 +155,8 @@ fn put_entry_at(group: Group, at: usize, from: usize, entry: BlockCacheEntry) ->
     Group {
         entries: out,
         count: n,
-        mark: mark,
-        boundary: boundary,
+        mark,
+        boundary,
     }
 }
 
@@ -302,8 +287,8 @@ fn compact_entries(group: Group, keep: [bool; 16]) -> Group
     Group {
         entries: kept,
         count: n,
-        mark: mark,
-        boundary: boundary,
+        mark,
+        boundary,
     }
 }
 
@@ -372,10 +357,10 @@ pub fn set_group_boundary(group: Group, key: BlockIdShort) -> Group
     let mark = group.mark;
     let boundary = Boundary::At(key);
     Group {
-        entries: entries,
+        entries,
         count: group.count,
-        mark: mark,
-        boundary: boundary,
+        mark,
+        boundary,
     }
 }
 
@@ -385,8 +370,5 @@ pub fn set_master_boundary(masters: MasterGroup, key: BlockIdShort) -> MasterGro
 {
     let group = set_group_boundary(masters.group, key);
     let tops = masters.tops;
-    MasterGroup {
-        group: group,
-        tops: tops,
-    }
+    MasterGroup { group, tops }
 }

@@ -70,21 +70,12 @@ pub fn first_applied_master(masters: MasterGroup, from: u32) -> MasterAt
     let found = first_applied_place(group, from);
     let Found::At(at) = found else {
         let zero = zero_master();
-        return MasterAt {
-            found: found,
-            block: zero,
-        };
+        return MasterAt { found, block: zero };
     };
     let entry = group.entries[at];
     let tops = masters.tops[at];
-    let block = MasterBlock {
-        entry: entry,
-        tops: tops,
-    };
-    MasterAt {
-        found: found,
-        block: block,
-    }
+    let block = MasterBlock { entry, tops };
+    MasterAt { found, block }
 }
 
 // Whether an applied entry lies above a seqno.

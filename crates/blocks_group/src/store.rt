@@ -64,7 +64,7 @@ fn refused_step(number: u32, block: MasterBlock) -> StoreStep
     StoreStep {
         answer: StoreAnswer::Refused(number),
         changed: false,
-        block: block,
+        block,
     }
 }
 
@@ -77,9 +77,9 @@ fn stored_step(both: bool, mismatch: bool, block: MasterBlock) -> StoreStep
         block_mismatch: mismatch,
     };
     StoreStep {
-        answer: answer,
+        answer,
         changed: true,
-        block: block,
+        block,
     }
 }
 
@@ -92,9 +92,9 @@ fn kept_step(both: bool, mismatch: bool, block: MasterBlock) -> StoreStep
         block_mismatch: mismatch,
     };
     StoreStep {
-        answer: answer,
+        answer,
         changed: false,
-        block: block,
+        block,
     }
 }
 
@@ -113,7 +113,7 @@ fn collated_kind(c: BlockCandidate, data: BlockCacheEntryData) -> BlockCacheEntr
     if is_masterchain(shard) {
         return BlockCacheEntryData::Received {
             collated_after_receive: true,
-            additional_anchor: additional_anchor,
+            additional_anchor,
         };
     }
     BlockCacheEntryData::Received {
@@ -139,9 +139,9 @@ fn received_kind(data: BlockCacheEntryData) -> BlockCacheEntryData
     BlockCacheEntryData::Collated {
         status: CandidateStatus::Synced,
         received_after_collation: true,
-        signatures: signatures,
-        total_signature_weight: total_signature_weight,
-        processed_to_anchor: processed_to_anchor,
+        signatures,
+        total_signature_weight,
+        processed_to_anchor,
     }
 }
 
@@ -151,10 +151,7 @@ fn with_block_data(block: MasterBlock, data: BlockCacheEntryData) -> MasterBlock
 {
     let entry = with_data(block.entry, data);
     let tops = block.tops;
-    MasterBlock {
-        entry: entry,
-        tops: tops,
-    }
+    MasterBlock { entry, tops }
 }
 
 // The collated store, by whether there is room for one more entry and what stands at the candidate's seqno.
@@ -222,10 +219,10 @@ fn refresh_group(seqno: u32, group: Group) -> Group
     let mark = refreshed_mark(seqno, known);
     let boundary = group.boundary;
     Group {
-        entries: entries,
+        entries,
         count: group.count,
-        mark: mark,
-        boundary: boundary,
+        mark,
+        boundary,
     }
 }
 
@@ -236,24 +233,15 @@ pub fn store_collated_block(group: Group, c: BlockCandidate) -> GroupStore
     let found = at.found;
     let entry = at.entry;
     let tops = zero_tops();
-    let block = MasterBlock {
-        entry: entry,
-        tops: tops,
-    };
+    let block = MasterBlock { entry, tops };
     let room = group.count < 16;
     let step = collated_step(c, room, found, block);
     let answer = step.answer;
     if step.changed {
         let put = put_entry(group, step.block.entry);
-        return GroupStore {
-            answer: answer,
-            group: put,
-        };
+        return GroupStore { answer, group: put };
     }
-    GroupStore {
-        answer: answer,
-        group: group,
-    }
+    GroupStore { answer, group }
 }
 
 // At or below the mark a block is Synced already.
@@ -265,17 +253,14 @@ pub fn store_received_block(zerostate: u32, group: Group, r: ReceivedBlock) -> G
     if known_synced(seqno, mark) {
         return GroupStore {
             answer: StoreAnswer::Synced,
-            group: group,
+            group,
         };
     }
     let at = entry_at(group, seqno);
     let found = at.found;
     let entry = at.entry;
     let tops = zero_tops();
-    let block = MasterBlock {
-        entry: entry,
-        tops: tops,
-    };
+    let block = MasterBlock { entry, tops };
     let room = group.count < 16;
     let step = received_step(zerostate, r, room, found, block);
     let answer = step.answer;
@@ -283,14 +268,11 @@ pub fn store_received_block(zerostate: u32, group: Group, r: ReceivedBlock) -> G
         let put = put_entry(group, step.block.entry);
         let refreshed = refresh_group(seqno, put);
         return GroupStore {
-            answer: answer,
+            answer,
             group: refreshed,
         };
     }
-    GroupStore {
-        answer: answer,
-        group: group,
-    }
+    GroupStore { answer, group }
 }
 
 // ===== the master group =====
@@ -300,10 +282,7 @@ fn refresh_masters(seqno: u32, masters: MasterGroup) -> MasterGroup
 {
     let group = refresh_group(seqno, masters.group);
     let tops = masters.tops;
-    MasterGroup {
-        group: group,
-        tops: tops,
-    }
+    MasterGroup { group, tops }
 }
 
 pub fn store_collated_master(masters: MasterGroup, c: BlockCandidate) -> MasterStore
@@ -318,14 +297,11 @@ pub fn store_collated_master(masters: MasterGroup, c: BlockCandidate) -> MasterS
     if step.changed {
         let put = put_master(masters, step.block);
         return MasterStore {
-            answer: answer,
+            answer,
             masters: put,
         };
     }
-    MasterStore {
-        answer: answer,
-        masters: masters,
-    }
+    MasterStore { answer, masters }
 }
 
 // At or below the mark a master is Synced already.
@@ -338,7 +314,7 @@ pub fn store_received_master(zerostate: u32, masters: MasterGroup, r: ReceivedBl
     if known_synced(seqno, mark) {
         return MasterStore {
             answer: StoreAnswer::Synced,
-            masters: masters,
+            masters,
         };
     }
     let at = master_at(masters, seqno);
@@ -351,12 +327,9 @@ pub fn store_received_master(zerostate: u32, masters: MasterGroup, r: ReceivedBl
         let put = put_master(masters, step.block);
         let refreshed = refresh_masters(seqno, put);
         return MasterStore {
-            answer: answer,
+            answer,
             masters: refreshed,
         };
     }
-    MasterStore {
-        answer: answer,
-        masters: masters,
-    }
+    MasterStore { answer, masters }
 }
