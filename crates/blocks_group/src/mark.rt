@@ -2,11 +2,17 @@
 ghost use mathlib.Core.Path.{_≡_};
 ghost use Rattle.block_records.specs.Lists.{present};
 ghost use Rattle.blocks_group.specs.GroupRules.{given-mark, refreshed};
-ghost use Rattle.blocks_group.specs.GroupLayout.{pack-mark, view-mark};
+ghost use Rattle.blocks_group.specs.GroupLayout.{checked-mark, pack-mark, view-mark};
 
 pub enum Mark {
     Absent,
     At(u32),
+}
+
+// What the mark's rule gives, and the mark after it.
+pub struct CheckedMark {
+    pub given: Mark,
+    pub mark: Mark,
 }
 
 // Whether the mark's rule gives a mark.
@@ -33,4 +39,29 @@ pub fn refreshed_mark(seqno: u32, mark: Mark) -> Mark
             }
         }
     }
+}
+
+// The mark's rule: the mark where it is at the seqno or above, else none.
+fn given_mark(seqno: u32, mark: Mark) -> Mark
+    ensures { λ r. ⌜ r ≡ pack-mark (given-mark seqno (view-mark mark)) ⌝ }
+{
+    match mark {
+        Mark::Absent => Mark::Absent,
+        Mark::At(known) => {
+            if seqno <= known {
+                Mark::At(known)
+            } else {
+                Mark::Absent
+            }
+        }
+    }
+}
+
+// The mark's rule whole, from mark to mark.
+pub fn check_mark(mark: Mark, seqno: u32) -> CheckedMark
+    ensures { λ r. ⌜ r ≡ checked-mark seqno mark ⌝ }
+{
+    let given = given_mark(seqno, mark);
+    let after = refreshed_mark(seqno, mark);
+    CheckedMark { given, mark: after }
 }

@@ -4,7 +4,7 @@ ghost use mathlib.Core.Bool.{false, true};
 ghost use mathlib.Core.Option.{none, some};
 ghost use Rattle.blocks_group.specs.GroupArrays.{when-found};
 ghost use Rattle.blocks_group.specs.GroupRules.{collated-kind, received-kind};
-ghost use Rattle.blocks_group.specs.GroupStores.{pack-step, refused-step, stored-step, with-block-data, collated-step, received-step, refresh-group, refresh-masters};
+ghost use Rattle.blocks_group.specs.GroupStores.{pack-step, refused-step, stored-step, with-block-data, collated-step, received-step};
 ghost use Rattle.blocks_group.specs.GroupStores.{store-collated-block, store-collated-master, store-received-block, store-received-master};
 use crate::group::Group;
 use crate::group::MasterGroup;
@@ -13,7 +13,8 @@ use crate::group::master_at;
 use crate::group::put_entry;
 use crate::group::put_master;
 use crate::mark::known_synced;
-use crate::mark::refreshed_mark;
+use crate::refresh::refresh_group;
+use crate::refresh::refresh_masters;
 use crate::search::Found;
 use block_records::block_id::id_shard;
 use block_records::block_id::is_masterchain;
@@ -211,21 +212,6 @@ fn received_step(
 
 // ===== a shard's group =====
 
-fn refresh_group(seqno: u32, group: Group) -> Group
-    ensures { λ r. ⌜ r ≡ refresh-group seqno group ⌝ }
-{
-    let entries = group.entries;
-    let known = group.mark;
-    let mark = refreshed_mark(seqno, known);
-    let boundary = group.boundary;
-    Group {
-        entries,
-        count: group.count,
-        mark,
-        boundary,
-    }
-}
-
 pub fn store_collated_block(group: Group, c: BlockCandidate) -> GroupStore
     ensures { λ r. ⌜ r ≡ store-collated-block c group ⌝ }
 {
@@ -266,7 +252,7 @@ pub fn store_received_block(zerostate: u32, group: Group, r: ReceivedBlock) -> G
     let answer = step.answer;
     if step.changed {
         let put = put_entry(group, step.block.entry);
-        let refreshed = refresh_group(seqno, put);
+        let refreshed = refresh_group(put, seqno);
         return GroupStore {
             answer,
             group: refreshed,
@@ -276,14 +262,6 @@ pub fn store_received_block(zerostate: u32, group: Group, r: ReceivedBlock) -> G
 }
 
 // ===== the master group =====
-
-fn refresh_masters(seqno: u32, masters: MasterGroup) -> MasterGroup
-    ensures { λ r. ⌜ r ≡ refresh-masters seqno masters ⌝ }
-{
-    let group = refresh_group(seqno, masters.group);
-    let tops = masters.tops;
-    MasterGroup { group, tops }
-}
 
 pub fn store_collated_master(masters: MasterGroup, c: BlockCandidate) -> MasterStore
     ensures { λ r. ⌜ r ≡ store-collated-master c masters ⌝ }
@@ -325,7 +303,7 @@ pub fn store_received_master(zerostate: u32, masters: MasterGroup, r: ReceivedBl
     let answer = step.answer;
     if step.changed {
         let put = put_master(masters, step.block);
-        let refreshed = refresh_masters(seqno, put);
+        let refreshed = refresh_masters(put, seqno);
         return MasterStore {
             answer,
             masters: refreshed,

@@ -1,8 +1,8 @@
 -- The group with the refreshed mark; the top items stay.
 -- Assumes nothing.
 use borrow.Author.Needs.{needs}
-use Rattle.blocks_group.proofs.store.refresh_masters.Statement.{statement}
-use Rattle.blocks_group.proofs.store.refresh_masters.Tie as tie
+use Rattle.blocks_group.proofs.refresh.refresh_masters.Statement.{statement}
+use Rattle.blocks_group.proofs.refresh.refresh_masters.Tie as tie
 
 refresh-group-requires : tie.Need-refresh-group-requires
 refresh-group-requires c κs = search needs
