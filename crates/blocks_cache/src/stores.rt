@@ -1,10 +1,11 @@
 // Document 01, Master data and Whole cache: the collated and the received store.
 ghost use mathlib.Core.Path.{_≡_};
 ghost use Rattle.blocks_cache.specs.CacheLayout.{call-on};
-ghost use Rattle.blocks_cache.specs.Calls.{unlent, store-collated};
+ghost use Rattle.blocks_cache.specs.Calls.{unlent, store-collated, store-received};
 ghost use Rattle.blocks_cache.specs.CacheStores.{store-outcome, zeroed-store, nothing-stored, stored-in, with-masters-and-data, shard-held};
 ghost use Rattle.blocks_cache.specs.CacheStores.{with-shard-group, collated-ids, ids-after, range-end-moved};
 ghost use Rattle.blocks_cache.specs.CacheStores.{store-master-candidate, store-shard-candidate, store-candidate};
+ghost use Rattle.blocks_cache.specs.CacheStores.{store-master-receipt, store-shard-receipt, store-receipt};
 use crate::cache::Cache;
 use crate::cache::ShardGroup;
 use crate::master_data::AppliedRange;
@@ -24,16 +25,21 @@ use block_records::block_id::BlockId;
 use block_records::block_id::ShardIdent;
 use block_records::block_id::id_shard;
 use block_records::block_id::is_masterchain;
+use block_records::block_id::same_id;
 use block_records::block_id::zero_id;
 use block_records::questions::Refusal;
 use block_records::questions::candidate_refusal;
+use block_records::questions::received_refusal;
 use block_records::store_records::BlockCandidate;
+use block_records::store_records::ReceivedBlock;
 use blocks_group::group::Group;
 use blocks_group::group::MasterGroup;
 use blocks_group::group::zero_group;
 use blocks_group::store::StoreAnswer;
 use blocks_group::store::store_collated_block;
 use blocks_group::store::store_collated_master;
+use blocks_group::store::store_received_block;
+use blocks_group::store::store_received_master;
 
 // What a store leaves and answers. Synced and refusals carry no further values: the id is absent, over zeros, and so is the range.
 pub struct BlockCacheStoreResult {
@@ -248,5 +254,83 @@ pub fn store_collated(cache: Cache, candidate: BlockCandidate) -> BlockCacheStor
     match refusal {
         Refusal::Number(number) => nothing_stored(cache, StoreAnswer::Refused(number)),
         Refusal::Absent => store_candidate(cache, candidate),
+    }
+}
+
+// ===== the received store =====
+
+// A master that is not Synced: the end is moved, and on mismatch ids from its seqno on go.
+fn store_master_receipt(cache: Cache, received: ReceivedBlock) -> BlockCacheStoreResult
+    ensures { λ r. ⌜ r ≡ store-master-receipt received cache ⌝ }
+{
+    let store = store_received_master(cache.zerostate_mc_seqno, cache.masters, received);
+    let answer = store.answer;
+    let StoreAnswer::Stored {
+        received_and_collated: _,
+        block_mismatch,
+    } = answer
+    else {
+        return nothing_stored(cache, answer);
+    };
+    let seqno = received.block_id.seqno;
+    let left = ids_after(cache.data, block_mismatch, seqno);
+    let data = range_end_moved(left, seqno);
+    let new = with_masters_and_data(cache, store.masters, data);
+    stored_in(new, answer)
+}
+
+// A shard block that is not Synced: on mismatch ids from its reference seqno on go.
+fn store_shard_receipt(cache: Cache, received: ReceivedBlock) -> BlockCacheStoreResult
+    ensures { λ r. ⌜ r ≡ store-shard-receipt received cache ⌝ }
+{
+    let shard = id_shard(received.block_id);
+    let groups = cache.shards;
+    let held = shard_held(groups, cache.shard_count, shard);
+    if !held.room {
+        return nothing_stored(cache, StoreAnswer::Refused(8));
+    }
+    let store = store_received_block(cache.zerostate_mc_seqno, held.group, received);
+    let answer = store.answer;
+    let StoreAnswer::Stored {
+        received_and_collated: _,
+        block_mismatch,
+    } = answer
+    else {
+        return nothing_stored(cache, answer);
+    };
+    let group = store.group;
+    let put = ShardGroup { shard, group };
+    let data = ids_after(cache.data, block_mismatch, received.ref_block_id.seqno);
+    let new = with_shard_group(cache, put, data);
+    stored_in(new, answer)
+}
+
+// Questions 5 to 8, and the store.
+fn store_receipt(cache: Cache, received: ReceivedBlock) -> BlockCacheStoreResult
+    ensures { λ r. ⌜ r ≡ store-receipt received cache ⌝ }
+{
+    if received.ref_block_id.seqno < cache.zerostate_mc_seqno {
+        return nothing_stored(cache, StoreAnswer::Refused(5));
+    }
+    let shard = id_shard(received.block_id);
+    if is_masterchain(shard) {
+        if !same_id(received.block_id, received.ref_block_id) {
+            return nothing_stored(cache, StoreAnswer::Refused(6));
+        }
+        return store_master_receipt(cache, received);
+    }
+    store_shard_receipt(cache, received)
+}
+
+pub fn store_received(cache: Cache, received: ReceivedBlock) -> BlockCacheStoreResult
+    ensures { λ r. ⌜ (store-outcome r ≡ call-on cache (unlent (store-received received))) × (r ≡ zeroed-store r) ⌝ }
+{
+    if !sound_cache(cache) {
+        return nothing_stored(cache, StoreAnswer::Refused(1));
+    }
+    let refusal = received_refusal(received);
+    match refusal {
+        Refusal::Number(number) => nothing_stored(cache, StoreAnswer::Refused(number)),
+        Refusal::Absent => store_receipt(cache, received),
     }
 }

@@ -4,7 +4,7 @@ use mathlib.Core.Path.{_∙_, ap, sym, subst}
 use borrow.Author.Tests.{not-false, not-true}
 use Rattle.block_records.specs.Questions.{candidate-questions}
 use Rattle.blocks_cache.specs.CacheLayout.{view}
-use Rattle.blocks_cache.specs.CacheStores.{store-outcome, zeroed-store}
+use Rattle.blocks_cache.specs.CacheStores.{store-outcome}
 use Rattle.blocks_cache.specs.Calls.{store-collated}
 use Rattle.blocks_cache.specs.declared.stores.BlockCacheStoreResult.{BlockCacheStoreResult}
 use Rattle.blocks_cache.proofs.CacheStoreLaws.{Zeroed, promised-refused, promised-rest, promised-unsound}
