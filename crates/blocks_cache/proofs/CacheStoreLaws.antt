@@ -42,7 +42,6 @@ use Rattle.blocks_cache.proofs.SoundLaws.{parts}
 use Rattle.blocks_cache.specs.CacheLayout.{HeldOutcome, answered-on, call-on, pack, pack-outcome, pack-shard, sound-cache, view, zero-shard-group}
 use Rattle.blocks_cache.specs.CacheStores.{held-at, nothing-stored, shard-held, store-outcome, stored-in, view-last, when-stored, with-shard-group, zeroed-store}
 use Rattle.blocks_cache.specs.Calls.{Request, stored, unlent}
-use Rattle.blocks_cache.specs.CaseCalls.{slice}
 use Rattle.blocks_cache.specs.Effects.{outcome-of, plain}
 use Rattle.blocks_cache.specs.MasterDataArrays.{highest-id, listed-ids, pack-last}
 use Rattle.blocks_cache.specs.Model.{Model, Range, ShardModel, entry-for, find-shard, group-for, group-in, group-of, is-shard, set-group, shard-before, with-data, with-shards}

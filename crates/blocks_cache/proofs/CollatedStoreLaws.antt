@@ -12,7 +12,6 @@ use Rattle.block_records.specs.declared.block_id.BlockId.{BlockId}
 use Rattle.block_records.specs.declared.block_id.ShardIdent.{ShardIdent}
 use Rattle.block_records.specs.declared.store_records.BlockCandidate.{BlockCandidate}
 use Rattle.blocks_cache.specs.declared.cache.Cache.{Cache}
-use Rattle.blocks_cache.specs.declared.cache.NewCacheAnswer.the-variants.{Made as made}
 use Rattle.blocks_cache.specs.declared.cache.ShardGroup.{ShardGroup}
 use Rattle.blocks_cache.specs.declared.master_data.AppliedRange.{AppliedRange}
 use Rattle.blocks_cache.specs.declared.master_data.MasterData.{MasterData}
@@ -36,13 +35,10 @@ use Rattle.blocks_cache.proofs.StoreLaws.{ids-length}
 use Rattle.blocks_cache.specs.CacheLayout.{HeldOutcome, answered-on, pack, pack-outcome, sound-cache, view}
 use Rattle.blocks_cache.specs.CacheStores.{collated-ids, master-candidate-stored, nothing-stored, shard-candidate-in, shard-candidate-stored, shard-held, store-candidate, store-master-candidate, store-outcome, store-shard-candidate, stored-in, with-masters-and-data, with-range, with-shard-group}
 use Rattle.blocks_cache.specs.Calls.{refused, store-collated, unlent}
-use Rattle.blocks_cache.specs.CaseCalls.{slice}
-use Rattle.blocks_cache.specs.Cases.{is-stored}
 use Rattle.blocks_cache.specs.Effects.{answered, collated-data, effect, store-change}
 use Rattle.blocks_cache.specs.MasterDataArrays.{has-place-for-id, id-at, put-id}
 use Rattle.blocks_cache.specs.Model.{Model, entry-for, find-shard, group-for, group-of, id-before, moved-start, set-group, with-data, with-masters, with-shards}
 use Rattle.blocks_cache.specs.Refusals.{further, has-id-room, has-room, sound}
-use Rattle.blocks_cache.specs.TailIds.{held}
 use Rattle.blocks_group.proofs.GroupStoreLaws.{collated-outcome, collated-place-questions, model-room, outcome, pack-master-store, pack-store, store-collated-master-packed, store-collated-packed, with-change}
 use Rattle.blocks_group.specs.GroupLayout.{pack-group, pack-master-group}
 use Rattle.blocks_group.specs.GroupRules.{GroupModel, Stored, at-seqno, store-collated-at, vacant-or}

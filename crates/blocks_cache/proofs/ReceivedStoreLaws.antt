@@ -12,7 +12,6 @@ use Rattle.block_records.specs.declared.block_id.BlockId.{BlockId}
 use Rattle.block_records.specs.declared.block_id.ShardIdent.{ShardIdent}
 use Rattle.block_records.specs.declared.store_records.ReceivedBlock.{ReceivedBlock}
 use Rattle.blocks_cache.specs.declared.cache.Cache.{Cache}
-use Rattle.blocks_cache.specs.declared.cache.NewCacheAnswer.the-variants.{Made as made}
 use Rattle.blocks_cache.specs.declared.cache.ShardGroup.{ShardGroup}
 use Rattle.blocks_cache.specs.declared.master_data.AppliedRange.{AppliedRange}
 use Rattle.blocks_cache.specs.declared.master_data.MasterData.{MasterData}
@@ -33,13 +32,9 @@ use Rattle.blocks_cache.proofs.MasterDataLaws.{drop-ids-from-packed, mo
 use Rattle.blocks_cache.specs.CacheLayout.{HeldOutcome, answered-on, pack, pack-outcome, sound-cache, view}
 use Rattle.blocks_cache.specs.CacheStores.{ids-after, master-receipt-stored, nothing-stored, range-end-moved, shard-held, shard-receipt-in, shard-receipt-stored, store-master-receipt, store-outcome, store-receipt, store-shard-receipt, stored-in, with-masters-and-data, with-range, with-shard-group}
 use Rattle.blocks_cache.specs.Calls.{store-received, synced, unlent}
-use Rattle.blocks_cache.specs.CaseCalls.{slice}
-use Rattle.blocks_cache.specs.Cases.{is-stored}
-use Rattle.blocks_cache.specs.Edges.{unmarked}
 use Rattle.blocks_cache.specs.Effects.{answered, effect, outcome-of, plain, received-data, received-stored, store-and-refresh}
 use Rattle.blocks_cache.specs.Model.{Model, entry-for, find-shard, group-for, group-of, ids-below, moved-end, set-group, with-data, with-masters, with-shards}
 use Rattle.blocks_cache.specs.Refusals.{further, has-room, is-synced, not-before-zerostate, own-reference, sound}
-use Rattle.blocks_cache.specs.TailIds.{held}
 use Rattle.blocks_group.proofs.GroupStoreLaws.{model-room, outcome, pack-master-store, pack-store, received-outcome, received-place-questions, store-received-master-packed, store-received-packed, with-change}
 use Rattle.blocks_group.specs.GroupLayout.{pack-group, pack-master-group}
 use Rattle.blocks_group.specs.GroupRules.{GroupModel, Stored, at-seqno, refresh, store-received-at, vacant-or}
