@@ -80,6 +80,7 @@ zeroed-store r =
 
 -- ===== parts of the cache put in =====
 
+-- the master group and master data put in
 abbrev pub with-masters-and-data : MasterGroup → MasterData → Cache → Cache
 with-masters-and-data g d c =
     record {
@@ -106,11 +107,13 @@ abbrev pub held-at : ℕ → List ShardGroup → Place → ShardHeld
 held-at n gs (place-at k) = record { room = true; group = getD gs k zero-shard-group .group }
 held-at n gs (place-vacant k) = record { room = ltb n 8; group = zero-group }
 
+-- the same of the place where a shard's group stands or would go in
 unfoldable pub shard-held : ShardIdent → ℕ → List ShardGroup → ShardHeld
 shard-held s n gs = held-at n gs (shard-place s n gs)
 
 -- ===== master data =====
 
+-- the applied range put in
 abbrev pub with-range : AppliedRange → MasterData → MasterData
 with-range r d = record { ids = d .ids; count = d .count; range = r }
 
@@ -138,6 +141,7 @@ master-candidate-stored c a g h =
     (nothing-stored (refused-answer 9) h)))
     h
 
+-- the store of the master group, and what is made of its answer
 unfoldable pub store-master-candidate : BlockCandidate → Cache → BlockCacheStoreResult
 store-master-candidate c h = let s = store-collated-master c (h .masters) in master-candidate-stored c (s .answer) (s .masters) h
 
@@ -146,6 +150,7 @@ abbrev pub shard-candidate-stored : StoreAnswer → ShardGroup → Cache → Blo
 shard-candidate-stored a g h =
     when-stored a (λ mismatch. pick mismatch (stored-in a h) (stored-in a (with-shard-group g (h .«data») h))) h
 
+-- 8. for a new shard are there under 8 groups? Then the store of its group, and what is made of its answer.
 abbrev pub shard-candidate-in : BlockCandidate → ShardHeld → Cache → BlockCacheStoreResult
 shard-candidate-in c x h =
     pick (x .room)
@@ -153,6 +158,7 @@ shard-candidate-in c x h =
     shard-candidate-stored (s .answer) (record { shard = id-shard (c .«block_id»); group = s .group }) h)
     (nothing-stored (refused-answer 8) h)
 
+-- .. with the group of its shard
 unfoldable pub store-shard-candidate : BlockCandidate → Cache → BlockCacheStoreResult
 store-shard-candidate c h = shard-candidate-in c (shard-held (id-shard (c .«block_id»)) (h .«shard_count») (h .shards)) h
 
@@ -170,6 +176,7 @@ master-receipt-stored r a g h =
     (with-masters-and-data g (range-end-moved (r .«block_id» .seqno) (ids-after mismatch (r .«block_id» .seqno) (h .«data»))) h))
     h
 
+-- the store of the master group, and what is made of its answer
 unfoldable pub store-master-receipt : ReceivedBlock → Cache → BlockCacheStoreResult
 store-master-receipt r h =
     let s = store-received-master (h .«zerostate_mc_seqno») r (h .masters) in master-receipt-stored r (s .answer) (s .masters) h
@@ -179,6 +186,7 @@ abbrev pub shard-receipt-stored : ReceivedBlock → StoreAnswer → ShardGroup �
 shard-receipt-stored r a g h =
     when-stored a (λ mismatch. stored-in a (with-shard-group g (ids-after mismatch (r .«ref_block_id» .seqno) (h .«data»)) h)) h
 
+-- 8. for a new shard are there under 8 groups? Then the store of its group, and what is made of its answer.
 abbrev pub shard-receipt-in : ReceivedBlock → ShardHeld → Cache → BlockCacheStoreResult
 shard-receipt-in r x h =
     pick (x .room)
@@ -186,6 +194,7 @@ shard-receipt-in r x h =
     shard-receipt-stored r (s .answer) (record { shard = id-shard (r .«block_id»); group = s .group }) h)
     (nothing-stored (refused-answer 8) h)
 
+-- .. with the group of its shard
 unfoldable pub store-shard-receipt : ReceivedBlock → Cache → BlockCacheStoreResult
 store-shard-receipt r h = shard-receipt-in r (shard-held (id-shard (r .«block_id»)) (h .«shard_count») (h .shards)) h
 

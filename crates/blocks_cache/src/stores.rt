@@ -88,6 +88,7 @@ fn stored_in(cache: Cache, answer: StoreAnswer) -> BlockCacheStoreResult
 
 // ===== parts of the cache put in =====
 
+// The master group and master data put in.
 fn with_masters_and_data(cache: Cache, masters: MasterGroup, data: MasterData) -> Cache
     ensures { λ r. ⌜ r ≡ with-masters-and-data masters «data» cache ⌝ }
 {
@@ -118,6 +119,7 @@ fn with_shard_group(cache: Cache, group: ShardGroup, data: MasterData) -> Cache
     }
 }
 
+// The group of a shard, an empty one where there is none; for a new shard there is room under 8 groups.
 fn shard_held(groups: [ShardGroup; 8], count: usize, shard: ShardIdent) -> ShardHeld
     ensures { λ r. ⌜ r ≡ shard-held shard count groups ⌝ }
 {
@@ -165,6 +167,7 @@ fn ids_after(data: MasterData, mismatch: bool, seqno: u32) -> MasterData
     data
 }
 
+// The end is moved.
 fn range_end_moved(data: MasterData, seqno: u32) -> MasterData
     ensures { λ r. ⌜ r ≡ range-end-moved seqno «data» ⌝ }
 {
@@ -244,6 +247,7 @@ fn store_candidate(cache: Cache, candidate: BlockCandidate) -> BlockCacheStoreRe
     store_shard_candidate(cache, candidate)
 }
 
+// Question 1, then the candidate's own, then the rest. Refused, the cache is as it was.
 pub fn store_collated(cache: Cache, candidate: BlockCandidate) -> BlockCacheStoreResult
     ensures { λ r. ⌜ (store-outcome r ≡ call-on cache (unlent (store-collated candidate))) × (r ≡ zeroed-store r) ⌝ }
 {
@@ -322,6 +326,7 @@ fn store_receipt(cache: Cache, received: ReceivedBlock) -> BlockCacheStoreResult
     store_shard_receipt(cache, received)
 }
 
+// Question 1, then the record's own, then the rest. Synced or refused, the cache is as it was.
 pub fn store_received(cache: Cache, received: ReceivedBlock) -> BlockCacheStoreResult
     ensures { λ r. ⌜ (store-outcome r ≡ call-on cache (unlent (store-received received))) × (r ≡ zeroed-store r) ⌝ }
 {
