@@ -1,0 +1,78 @@
+-- Question 1, then the record's own questions, then the rest.
+-- Assumes nothing.
+use mathlib.Core.Path.{_∙_, ap, sym, subst}
+use borrow.Author.Tests.{not-false, not-true}
+use Rattle.block_records.specs.Questions.{received-questions}
+use Rattle.blocks_cache.specs.CacheLayout.{view}
+use Rattle.blocks_cache.specs.CacheStores.{store-outcome}
+use Rattle.blocks_cache.specs.Calls.{store-received}
+use Rattle.blocks_cache.specs.declared.stores.BlockCacheStoreResult.{BlockCacheStoreResult}
+use Rattle.blocks_cache.proofs.CacheStoreLaws.{Zeroed, promised-refused, promised-rest, promised-unsound}
+use Rattle.blocks_cache.proofs.ReceivedStoreLaws.{receipt-decided, receipt-rest, receipt-split, receipt-zeroed}
+use borrow.Author.Needs.{needs}
+use Rattle.blocks_cache.proofs.stores.store_received.Statement.{statement}
+use Rattle.blocks_cache.proofs.stores.store_received.Tie as tie
+
+sound-cache-requires : tie.Need-sound-cache-requires
+sound-cache-requires c κs = search needs
+
+nothing-stored-requires : tie.Need-nothing-stored-requires
+nothing-stored-requires c κs = search needs
+
+returns : tie.Need-returns
+returns c =
+    let p = c .before .before in
+    let s = p .before in
+    promised-unsound (s .args .cache) (store-received (s .args .received)) _ (c .nothing-stored .ensures)
+    (sym (p .sound-cache .ensures) ∙ not-true (p .sound-cache .result) (c .before .if1 .taken))
+
+received-refusal-requires : tie.Need-received-refusal-requires
+received-refusal-requires c κs = search needs
+
+enum-known-refusal : tie.Need-enum-known-refusal
+enum-known-refusal c = search needs
+
+nothing-stored-requires-2 : tie.Need-nothing-stored-requires-2
+nothing-stored-requires-2 c κs = search needs
+
+enum-told : tie.Need-enum-told
+enum-told c = search needs
+
+store-receipt-requires : tie.Need-store-receipt-requires
+store-receipt-requires c κs = search needs
+
+returns-2 : tie.Need-returns-2
+returns-2 c =
+    let f = c .before .before .before .before in
+    let p = f .before .before in
+    let s = p .before in
+    let ok = sym (p .sound-cache .ensures) ∙ not-false (p .sound-cache .result) (f .before .if1 .left) in
+    promised-refused (s .args .cache) (store-received (s .args .received)) ok (received-questions (s .args .received)) (receipt-rest (s .args .received) (view (s .args .cache)))
+    (receipt-split (s .args .received) (s .args .cache)) _ (f .received-refusal .ensures) _ _ (c .nothing-stored2 .ensures) (c .before .before .refusal .given .1)
+
+returns-3 : tie.Need-returns-3
+returns-3 c =
+    let f = c .before .before .before in
+    let p = f .before .before in
+    let s = p .before in
+    let ok = sym (p .sound-cache .ensures) ∙ not-false (p .sound-cache .result) (f .before .if1 .left) in
+    let e = c .store-receipt .ensures in
+    promised-rest (s .args .cache) (store-received (s .args .received)) ok (received-questions (s .args .received)) (receipt-rest (s .args .received) (view (s .args .cache)))
+    (receipt-split (s .args .received) (s .args .cache)) _ (f .received-refusal .ensures) _
+    (ap store-outcome e ∙ receipt-decided (s .args .received) (s .args .cache) ok)
+    (subst (λ (r : BlockCacheStoreResult). Zeroed r) (sym e) (receipt-zeroed (s .args .received) (s .args .cache))) (c .before .enum-told .given .1)
+
+pub store-received-spec : {M : Type 1} → statement M
+store-received-spec =
+    tie.close
+    (tie.spec
+    sound-cache-requires
+    nothing-stored-requires
+    returns
+    received-refusal-requires
+    enum-known-refusal
+    nothing-stored-requires-2
+    enum-told
+    store-receipt-requires
+    returns-2
+    returns-3)
