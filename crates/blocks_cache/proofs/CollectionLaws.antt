@@ -36,10 +36,11 @@ use Rattle.block_records.proofs.Tests.{and-left, and-right, clash, not-true, on
 use Rattle.block_records.specs.BlockIds.{is-masterchain, key-shard, less-shard, listed-keys, same-shard}
 use Rattle.block_records.specs.Lists.{all, each, filter, fold, padded, pick, rising}
 use Rattle.block_records.specs.Questions.{Question, ask, first-no, keys-questions, pack-refusal}
+use Rattle.blocks_cache.proofs.CacheLookupLaws.{shard-place-listed}
 use Rattle.blocks_cache.proofs.CallLaws.{no-leaves}
 use Rattle.blocks_cache.proofs.CallOnLaws.{on-sound}
 use Rattle.blocks_cache.proofs.MasterDataLaws.{drop-ids-below-packed, drop-ids-from-packed}
-use Rattle.blocks_cache.proofs.ShardArrayLaws.{shard-listed, shard-place-packed}
+use Rattle.blocks_cache.proofs.ShardArrayLaws.{shard-place-packed}
 use Rattle.blocks_cache.proofs.SoundLaws.{parts}
 use Rattle.blocks_cache.proofs.SoundSteps.{all-yes}
 use Rattle.blocks_cache.specs.CacheLayout.{answered-on, call-on, pack, pack-outcome, pack-shard, questions-on, sound-cache, view, zero-shard-group}
@@ -55,7 +56,7 @@ use Rattle.blocks_cache.specs.ShardArrays.{shard-place}
 use Rattle.blocks_group.proofs.GroupLaws.{entry-seqno}
 use Rattle.blocks_group.proofs.QueryLaws.{below-go, collect-group-packed, collect-masters-packed, from-go, highest-below-boundary-packed, kept-by, lowest-collated-above-packed, remove-collated-above-packed, remove-collated-masters-above-packed}
 use Rattle.blocks_group.specs.GroupArrays.{set-group-boundary, set-master-boundary}
-use Rattle.blocks_group.specs.GroupLayout.{pack-group, zero-group}
+use Rattle.blocks_group.specs.GroupLayout.{pack-group}
 use Rattle.blocks_group.specs.GroupQueries.{collect-group, collect-masters, highest-below-boundary, highest-seqno, lowest-collated-above, lowest-seqno, pack-seqno, remove-collated-above, remove-collated-masters-above}
 use Rattle.blocks_group.specs.GroupRules.{GroupModel, below-boundary, collated-above, with-boundary, without-collated-above}
 
@@ -311,9 +312,6 @@ removes ks m = refl
 -- ===== the steps of the code =====
 
 module _ (s : ShardIdent) (f : Group → Group) (c : Cache) (long : length (c .shards) ≡ 8) (k : ℕ) where
-  pub shard-place-listed : shard-place s (c .«shard_count») (c .shards) ≡ place-at k → k < 8
-  shard-place-listed e = shard-listed (c .shards) long (c .«shard_count») (record { shard = s; group = zero-group }) k e
-
   pub shard-unknown : shard-place s (c .«shard_count») (c .shards) ≡ place-vacant k → c ≡ on-shard-group s f c
   shard-unknown e = ap (λ (p : Place). with-shard-groups (on-place f p (c .shards)) c) (sym e)
 
@@ -321,7 +319,7 @@ module _ (s : ShardIdent) (f : Group → Group) (c : Cache) (long : length (c .s
   pub shard-known : (e : shard-place s (c .«shard_count») (c .shards) ≡ place-at k) (d : ShardGroup) (g : Group) → g ≡ f (getD (c .shards) k d .group) → (r : Cache) →
       r ≡ with-shard-groups (with-group-at k g (c .shards)) c → r ≡ on-shard-group s f c
   shard-known e d g eg r er =
-      let l = shard-place-listed e in
+      let l = shard-place-listed s c long k e in
       er ∙ ap (λ (x : Group). with-shard-groups (with-group-at k x (c .shards)) c)
       (eg ∙ ap (λ (x : ShardGroup). f (x .group)) (getD-any (c .shards) k d zero-shard-group (omega (arith, long))))
       ∙ ap (λ (p : Place). with-shard-groups (on-place f p (c .shards)) c) (sym e)

@@ -5,7 +5,8 @@ use native.Mathlib.Omega.{arith}
 use lib.ListN.{length}
 use Rattle.block_records.proofs.LoopLaws.{length-mapped}
 use Rattle.blocks_group.specs.GroupQueries.{remove-collated-above}
-use Rattle.blocks_cache.proofs.CollectionLaws.{removes-masters, removes-shard, shard-known, shard-place-listed, shard-unknown}
+use Rattle.blocks_cache.proofs.CacheLookupLaws.{shard-place-listed}
+use Rattle.blocks_cache.proofs.CollectionLaws.{removes-masters, removes-shard, shard-known, shard-unknown}
 use borrow.Author.Needs.{needs}
 use Rattle.blocks_cache.proofs.collection.remove_one.Statement.{statement}
 use Rattle.blocks_cache.proofs.collection.remove_one.Tie as tie
@@ -44,13 +45,13 @@ returns-2 c =
 mul-known : tie.Need-mul-known
 mul-known c =
     let s = c .before .before .before .before .before .before .before .before in
-    let l = shard-place-listed (c .before .before .before .before .before .before .before .key-shard .result) (remove-collated-above (s .args .short .seqno)) (s .args .cache) (long s) _ (sym (c .before .before .before .find-shard .ensures) ∙ c .before .place .given .1) in
+    let l = shard-place-listed (c .before .before .before .before .before .before .before .key-shard .result) (s .args .cache) (long s) _ (sym (c .before .before .before .find-shard .ensures) ∙ c .before .place .given .1) in
     omega arith
 
 array-copy-out-known : tie.Need-array-copy-out-known
 array-copy-out-known c =
     let s = c .before .before .before .before .before .before .before .before in
-    let l = shard-place-listed (c .before .before .before .before .before .before .before .key-shard .result) (remove-collated-above (s .args .short .seqno)) (s .args .cache) (long s) _ (sym (c .before .before .before .find-shard .ensures) ∙ c .before .place .given .1) in
+    let l = shard-place-listed (c .before .before .before .before .before .before .before .key-shard .result) (s .args .cache) (long s) _ (sym (c .before .before .before .find-shard .ensures) ∙ c .before .place .given .1) in
     l
 
 remove-collated-above-requires : tie.Need-remove-collated-above-requires
@@ -59,7 +60,7 @@ remove-collated-above-requires c κs = search needs
 replace-group-requires : tie.Need-replace-group-requires
 replace-group-requires c κs =
     let s = c .before .before .before .before .before .before .before .before .before .before in
-    let l = shard-place-listed (c .before .before .before .before .before .before .before .before .before .key-shard .result) (remove-collated-above (s .args .short .seqno)) (s .args .cache) (long s) _ (sym (c .before .before .before .before .before .find-shard .ensures) ∙ c .before .before .before .place .given .1) in
+    let l = shard-place-listed (c .before .before .before .before .before .before .before .before .before .key-shard .result) (s .args .cache) (long s) _ (sym (c .before .before .before .before .before .find-shard .ensures) ∙ c .before .before .before .place .given .1) in
     l
 
 returns-3 : tie.Need-returns-3
