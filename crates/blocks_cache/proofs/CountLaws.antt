@@ -169,7 +169,7 @@ shards-previous (x ∷ gs) h =
     let g = shard-parts x (and-left (shard-sound x) (all shard-sound gs) h) in
     omega (arith, ih, leb-true (length (x .group .entries)) 16 (g .count), previous-at-most (of-shard (x .shard)) (x .group .entries) (g .fit))
 
-shards-blocks : (gs : List ShardModel) → all shard-sound gs ≡ true → blocks-cached gs ≤ 16 * length gs
+pub shards-blocks : (gs : List ShardModel) → all shard-sound gs ≡ true → blocks-cached gs ≤ 16 * length gs
 shards-blocks [] h = omega arith
 shards-blocks (x ∷ gs) h =
     let ih = shards-blocks gs (and-right (shard-sound x) (all shard-sound gs) h) in

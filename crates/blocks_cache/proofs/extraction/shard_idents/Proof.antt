@@ -1,0 +1,81 @@
+-- The invariant: those of the groups passed, in their places.
+-- Assumes nothing.
+use mathlib.Core.Path.{_≡_, refl, sym, ap, _∙_}
+use Prim.Native.Nat.{_≤_, _-_, _+_}
+use native.Mathlib.Omega.{arith}
+use borrow.Author.Needs.{needs}
+use lib.ListN.{length, take, drop}
+use Rattle.block_records.proofs.LoopLaws.{length-mapped}
+use Rattle.block_records.proofs.ArrayLaws.{each-end, each-next}
+use Rattle.block_records.proofs.LoopLaws.{padded-nil}
+use Rattle.block_records.specs.Lists.{each, padded}
+use Rattle.blocks_cache.proofs.ExtractionArrayLaws.{each-all}
+use Rattle.block_records.specs.Zeros.{zero-shard}
+use Rattle.blocks_cache.specs.ExtractionArrays.{held-shard}
+use Rattle.blocks_cache.proofs.extraction.shard_idents.Statement.{statement}
+use Rattle.blocks_cache.proofs.extraction.shard_idents.Tie as tie
+
+abbrev Inv-loop : tie.InvT-loop
+Inv-loop shards out₀ i₀ out i = (i ≤ 8) × (out ≡ padded 8 zero-shard (take i (each held-shard (take 8 shards))))
+
+abbrev μ-loop : tie.MeasureT-loop
+μ-loop shards out₀ i₀ out i = 8 - i
+
+len : (c : tie.Start Inv-loop μ-loop) → length (c .args .t1) ≡ 8
+len c = search (needs, length-mapped)
+
+zero-shard-requires : tie.Need-zero-shard-requires Inv-loop μ-loop
+zero-shard-requires c κs = search needs
+
+loop-holds : tie.Need-loop-holds Inv-loop μ-loop
+loop-holds c = (search needs, rw (c .zero-shard .ensures) (sym (padded-nil 8 zero-shard)))
+
+mul-held : tie.Need-mul-held Inv-loop μ-loop
+mul-held c = search needs
+
+array-copy-out-held : tie.Need-array-copy-out-held Inv-loop μ-loop
+array-copy-out-held c = search needs
+
+mul-out : tie.Need-mul-out Inv-loop μ-loop
+mul-out c = search needs
+
+array-set-from-out : tie.Need-array-set-from-out Inv-loop μ-loop
+array-set-from-out c = search needs
+
+add-i : tie.Need-add-i Inv-loop μ-loop
+add-i c = search needs
+
+loop-less : tie.Need-loop-less Inv-loop μ-loop
+loop-less c = search needs
+
+loop-again : tie.Need-loop-again Inv-loop μ-loop
+loop-again c =
+    let h = c .before .before .before in
+    let s = h .before .before in
+    let l = len s in
+    (search needs, each-next held-shard 8 zero-shard 8 (s .args .t1) (h .loop .out) (h .loop .i) (omega arith) (omega arith) (h .loop .inv .1) _ _ (refl) (omega arith))
+
+returns : tie.Need-returns Inv-loop μ-loop
+returns c =
+    let h = c .before in
+    let s = h .before .before in
+    let l = len s in
+    let t = c .loop-test .left in
+    each-end held-shard 8 zero-shard 8 (s .args .t1) (h .loop .out) (h .loop .i) (omega arith) (omega arith) (h .loop .inv .1) (omega arith) ∙ each-all held-shard 8 zero-shard (s .args .t1) l
+
+pub shard-idents-spec : {M : Type 1} → statement M
+shard-idents-spec =
+    tie.close
+    (tie.spec
+    Inv-loop
+    μ-loop
+    zero-shard-requires
+    loop-holds
+    mul-held
+    array-copy-out-held
+    mul-out
+    array-set-from-out
+    add-i
+    loop-less
+    loop-again
+    returns)

@@ -1,0 +1,126 @@
+-- Each return is a case of the definition.
+-- Assumes nothing.
+use mathlib.Core.Path.{_≡_, sym, ap, _∙_}
+use borrow.Author.Needs.{needs}
+use borrow.Author.Tests.{not-true, not-false}
+use Rattle.block_records.specs.Questions.{seqno-fits}
+use Rattle.blocks_cache.specs.declared.subgraph.ExtractRequest.{ExtractRequest}
+use Rattle.blocks_cache.specs.Subgraphs.{plain-extract, request-seqno}
+use Rattle.blocks_cache.proofs.SubgraphLaws.{plain-pops, plain-short, plain-syncs, plain-unfit, plain-unsound}
+use Rattle.blocks_cache.proofs.subgraph.extract_plain.Statement.{statement}
+use Rattle.blocks_cache.proofs.subgraph.extract_plain.Tie as tie
+
+sound-cache-requires : tie.Need-sound-cache-requires
+sound-cache-requires c κs = search needs
+
+no-extract-requires : tie.Need-no-extract-requires
+no-extract-requires c κs = search needs
+
+returns : tie.Need-returns
+returns c =
+    let v = c .before .before in
+    let s = v .before in
+    c .no-extract .ensures ∙ plain-unsound (s .args .cache) (s .args .places) (s .args .request) (sym (v .sound-cache .ensures) ∙ not-true (v .sound-cache .result) (c .before .if1 .taken))
+
+request-seqno-requires : tie.Need-request-seqno-requires
+request-seqno-requires c κs = search needs
+
+seqno-fits-requires : tie.Need-seqno-fits-requires
+seqno-fits-requires c κs = search needs
+
+no-extract-requires-2 : tie.Need-no-extract-requires-2
+no-extract-requires-2 c κs = search needs
+
+returns-2 : tie.Need-returns-2
+returns-2 c =
+    let f = c .before .before in
+    let q = f .before in
+    let i = q .before in
+    let v = i .before in
+    let s = v .before in
+    c .no-extract2 .ensures
+    ∙ plain-unfit (s .args .cache) (s .args .places) (sym (v .sound-cache .ensures) ∙ not-false (v .sound-cache .result) (i .if1 .left)) (s .args .request)
+    (sym (f .seqno-fits .ensures ∙ ap seqno-fits (q .request-seqno .ensures)) ∙ not-true (f .seqno-fits .result) (c .before .if2 .taken))
+
+no-extract-requires-3 : tie.Need-no-extract-requires-3
+no-extract-requires-3 c κs = search needs
+
+returns-3 : tie.Need-returns-3
+returns-3 c =
+    let j = c .before .before in
+    let f = j .before in
+    let q = f .before in
+    let i = q .before in
+    let v = i .before in
+    let s = v .before in
+    c .no-extract3 .ensures
+    ∙ plain-short (s .args .cache) (s .args .places) (sym (v .sound-cache .ensures) ∙ not-false (v .sound-cache .result) (i .if1 .left)) (s .args .request)
+    (sym (f .seqno-fits .ensures ∙ ap seqno-fits (q .request-seqno .ensures)) ∙ not-false (f .seqno-fits .result) (j .if2 .left)) (c .before .if3 .taken)
+
+enum-known-request : tie.Need-enum-known-request
+enum-known-request c = search needs
+
+pop-plain-requires : tie.Need-pop-plain-requires
+pop-plain-requires c κs =
+    let i = c .before .before .before .before .before .before .before in
+    let v = i .before in
+    sym (v .sound-cache .ensures) ∙ not-false (v .sound-cache .result) (i .if1 .left)
+
+enum-known-request-2 : tie.Need-enum-known-request-2
+enum-known-request-2 c = search needs
+
+sync-plain-requires : tie.Need-sync-plain-requires
+sync-plain-requires c κs =
+    let i = c .before .before .before .before .before .before .before in
+    let v = i .before in
+    sym (v .sound-cache .ensures) ∙ not-false (v .sound-cache .result) (i .if1 .left)
+
+returns-4 : tie.Need-returns-4
+returns-4 c =
+    let r = c .before .before in
+    let k = r .before .before in
+    let j = k .before in
+    let f = j .before in
+    let q = f .before in
+    let i = q .before in
+    let v = i .before in
+    let s = v .before in
+    let e = r .request .given .1 in
+    plain-pops (s .args .cache) (s .args .places) (sym (v .sound-cache .ensures) ∙ not-false (v .sound-cache .result) (i .if1 .left)) _
+    (sym (f .seqno-fits .ensures ∙ ap seqno-fits (q .request-seqno .ensures ∙ ap request-seqno e)) ∙ not-false (f .seqno-fits .result) (j .if2 .left)) (k .if3 .left) _ (c .pop-plain .ensures)
+    ∙ sym (ap (λ (x : ExtractRequest). plain-extract (s .args .cache) x (s .args .places)) e)
+
+returns-5 : tie.Need-returns-5
+returns-5 c =
+    let r = c .before .before in
+    let k = r .before .before in
+    let j = k .before in
+    let f = j .before in
+    let q = f .before in
+    let i = q .before in
+    let v = i .before in
+    let s = v .before in
+    let e = r .request2 .given .1 in
+    plain-syncs (s .args .cache) (s .args .places) (sym (v .sound-cache .ensures) ∙ not-false (v .sound-cache .result) (i .if1 .left)) _
+    (sym (f .seqno-fits .ensures ∙ ap seqno-fits (q .request-seqno .ensures ∙ ap request-seqno e)) ∙ not-false (f .seqno-fits .result) (j .if2 .left)) (k .if3 .left) _ (c .sync-plain .ensures)
+    ∙ sym (ap (λ (x : ExtractRequest). plain-extract (s .args .cache) x (s .args .places)) e)
+
+pub extract-plain-spec : {M : Type 1} → statement M
+extract-plain-spec =
+    tie.close
+    (tie.spec
+    sound-cache-requires
+    no-extract-requires
+    returns
+    request-seqno-requires
+    seqno-fits-requires
+    no-extract-requires-2
+    returns-2
+    no-extract-requires-3
+    returns-3
+    enum-known-request
+    pop-plain-requires
+    enum-known-request-2
+    sync-plain-requires
+    returns-4
+    returns-5)
