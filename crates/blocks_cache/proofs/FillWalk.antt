@@ -34,7 +34,7 @@ use denote.Steps.{owned}
 use denote.Struct.Struct.{Plains}
 use denote.Struct.Declared.{Declared, fields, row as row-of}
 use denote.Struct.Laws as LL
-use Rattle.blocks_cache.proofs.Laid.{taken-up, whiles}
+use Rattle.blocks_cache.proofs.LocalArrayWalk.{taken-up, whiles}
 use Rattle.blocks_cache.proofs.LentSliceLaws.{filled-length, filled-next, head-of}
 use Rattle.blocks_cache.specs.LentSlices.{filled-at}
 

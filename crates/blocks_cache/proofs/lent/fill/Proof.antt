@@ -43,7 +43,7 @@ use Rattle.block_records.specs.declared.entry.BlockCacheEntry.{BlockCacheEntry}
 use Rattle.block_records.proofs.entry.BlockCacheEntry as E
 use Rattle.block_records.proofs.entry.BlockCacheEntry.Laws as E′
 use Rattle.blocks_cache.proofs.FillWalk.{At, Nearer, Nearer-wf, turns, zs, zs-long}
-use Rattle.blocks_cache.proofs.Laid.{laid}
+use Rattle.blocks_cache.proofs.LocalArrayWalk.{laid}
 use Rattle.blocks_cache.proofs.LentSliceLaws.{filled-none}
 use Rattle.blocks_cache.proofs.lent.fill.Key.{name as #fill}
 use Rattle.blocks_cache.proofs.lent.fill as fill
