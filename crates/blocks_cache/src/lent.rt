@@ -3,6 +3,13 @@ ghost use mathlib.Core.Path.{_≡_};
 ghost use Prim.Native.Nat.{_+_, _≤_};
 ghost use lib.ListN.{length};
 ghost use Rattle.blocks_cache.specs.LentSlices.{filled-at};
+ghost use Rattle.blocks_cache.specs.Subgraphs.{extract-on, extract-outcome, zeroed-extract};
+ghost use Rattle.blocks_cache.specs.declared.subgraph.ExtractRequest.the-variants.{Pop as pop-request, Sync as sync-request};
+use crate::cache::Cache;
+use crate::subgraph::ExtractRequest;
+use crate::subgraph::SubgraphExtract;
+use crate::subgraph::extract_plain;
+use block_records::block_id::BlockId;
 use block_records::entry::BlockCacheEntry;
 
 // The first n blocks go into the slice from a place on; what stands before and after them stays.
@@ -15,4 +22,40 @@ pub(crate) fn fill(out: &mut [BlockCacheEntry], at: usize, blocks: [BlockCacheEn
         out[at + i] = blocks[i];
         i += 1;
     }
+}
+
+// A request's extraction; the blocks go to the front of the lent slice.
+pub fn extract_mc_block_subgraph(
+    cache: Cache,
+    request: ExtractRequest,
+    out: &mut [BlockCacheEntry],
+) -> SubgraphExtract
+    ensures { λ r. ⌜ (extract-outcome r (now (out .exit)) ≡ extract-on cache request (now (out .entry))) × (r ≡ zeroed-extract r) ⌝ }
+{
+    let plain = extract_plain(cache, request, out.len());
+    let extract = plain.extract;
+    fill(out, 0, plain.blocks, extract.joined);
+    extract
+}
+
+pub fn pop_front_applied_mc_block_subgraph(
+    cache: Cache,
+    from: u32,
+    out: &mut [BlockCacheEntry],
+) -> SubgraphExtract
+    ensures { λ r. ⌜ (extract-outcome r (now (out .exit)) ≡ extract-on cache (pop-request from) (now (out .entry))) × (r ≡ zeroed-extract r) ⌝ }
+{
+    let request = ExtractRequest::Pop(from);
+    extract_mc_block_subgraph(cache, request, out)
+}
+
+pub fn extract_mc_block_subgraph_for_sync(
+    cache: Cache,
+    block_id: BlockId,
+    out: &mut [BlockCacheEntry],
+) -> SubgraphExtract
+    ensures { λ r. ⌜ (extract-outcome r (now (out .exit)) ≡ extract-on cache (sync-request («block_id» .seqno)) (now (out .entry))) × (r ≡ zeroed-extract r) ⌝ }
+{
+    let request = ExtractRequest::Sync(block_id.seqno);
+    extract_mc_block_subgraph(cache, request, out)
 }
