@@ -7,6 +7,7 @@ ghost use Rattle.blocks_cache.specs.Subgraphs.{extract-on, extract-outco
 ghost use Rattle.blocks_cache.specs.declared.subgraph.ExtractRequest.the-variants.{Pop as pop-request, Sync as sync-request};
 use crate::cache::Cache;
 use crate::subgraph::ExtractRequest;
+use crate::subgraph::PlainExtract;
 use crate::subgraph::SubgraphExtract;
 use crate::subgraph::extract_plain;
 use block_records::block_id::BlockId;
@@ -58,4 +59,32 @@ pub fn extract_mc_block_subgraph_for_sync(
 {
     let request = ExtractRequest::Sync(block_id.seqno);
     extract_mc_block_subgraph(cache, request, out)
+}
+
+// Pop for callers that can't lend a slice of records: it is lent from a local array.
+pub fn pop_to_array(cache: Cache, from: u32, blocks: [BlockCacheEntry; 128]) -> PlainExtract
+    ensures { λ r. ⌜ (extract-outcome (r .extract) (r .blocks) ≡ extract-on cache (pop-request from) blocks) × (r .extract ≡ zeroed-extract (r .extract)) ⌝ }
+{
+    let mut out = blocks;
+    let extract = pop_front_applied_mc_block_subgraph(cache, from, &mut out[..]);
+    PlainExtract {
+        extract,
+        blocks: out,
+    }
+}
+
+// The same of sync extraction.
+pub fn sync_to_array(
+    cache: Cache,
+    block_id: BlockId,
+    blocks: [BlockCacheEntry; 128],
+) -> PlainExtract
+    ensures { λ r. ⌜ (extract-outcome (r .extract) (r .blocks) ≡ extract-on cache (sync-request («block_id» .seqno)) blocks) × (r .extract ≡ zeroed-extract (r .extract)) ⌝ }
+{
+    let mut out = blocks;
+    let extract = extract_mc_block_subgraph_for_sync(cache, block_id, &mut out[..]);
+    PlainExtract {
+        extract,
+        blocks: out,
+    }
 }

@@ -27,7 +27,7 @@ pub struct SubgraphExtract {
     pub cache: Cache,
 }
 
-pub(crate) struct PlainExtract {
+pub struct PlainExtract {
     pub extract: SubgraphExtract,
     pub blocks: [BlockCacheEntry; 128],
 }
