@@ -1,14 +1,14 @@
 -- Pop and sync extraction as the code answers them are the rules' calls: answer, cache and slice, refusals too; and what is known of the blocks.
 -- Assumes nothing.
 use mathlib.Core.Bool.{Bool, false, not, true}
-use mathlib.Core.List.{List, [], _∷_}
+use mathlib.Core.List.{List, [], _++_, _∷_}
 use mathlib.Core.Option.{Option, Option·map, none, some}
-use mathlib.Core.Path.{_∙_, _≡_, ap, refl, sym}
+use mathlib.Core.Path.{_∙_, _≡_, ap, refl, subst, sym}
 use Prim.Native.Nat.{_+_, _<_, _≤_, suc, zero, ℕ}
 use native.Mathlib.Omega.{arith}
 use borrow.Author.Tests.{le-leb, leb-true, lt-leb}
 use lib.Dec.{eqb}
-use lib.ListN.{length, take}
+use lib.ListN.{drop, length, take}
 use Rattle.block_records.specs.declared.block_id.BlockId.{BlockId}
 use Rattle.block_records.specs.declared.entry.BlockCacheEntry.{BlockCacheEntry}
 use Rattle.block_records.specs.declared.entry.MasterBlock.{MasterBlock}
@@ -44,13 +44,14 @@ use Rattle.blocks_cache.specs.CaseCalls.{block, slice}
 use Rattle.blocks_cache.specs.Effects.{at-front, effect, extract-of, extracted-model, masters-without, outcome-of, pop-entry, sync-entry}
 use Rattle.blocks_cache.specs.Extraction.{Walk, extract, extraction-of, first-walk, previous-cached, starting-ids, take-found, take-id, take-one, take-times}
 use Rattle.blocks_cache.specs.ExtractionArrays.{pack-extraction, view-master}
+use Rattle.blocks_cache.specs.LentSlices.{filled-at}
 use Rattle.blocks_cache.specs.Model.{Model, Range, applied-above, first-applied, is-last, lookup, moved-start, refresh-shard, remove-block}
 use Rattle.blocks_cache.specs.Refusals.{further}
-use Rattle.blocks_cache.specs.Subgraphs.{an-extract, extract-outcome, hand-out, joined-blocks, move-applied-start, no-extract, plain-answered, plain-extract, plain-questions, pop-plain, request-seqno, some-id, sync-plain, zeroed-extract}
+use Rattle.blocks_cache.specs.Subgraphs.{an-extract, extract-on, extract-outcome, hand-out, joined-blocks, move-applied-start, no-extract, plain-answered, plain-extract, plain-questions, pop-plain, request-seqno, some-id, sync-plain, with-master, zeroed-extract}
 use Rattle.blocks_group.proofs.GroupArrayLaws.{master-at-packed, remove-master-packed}
 use Rattle.blocks_group.proofs.GroupLaws.{group-parts}
 use Rattle.blocks_group.proofs.GroupLayoutLaws.{take-padded-each}
-use Rattle.blocks_group.proofs.GroupStoreLaws.{refresh-masters-packed}
+use Rattle.blocks_group.proofs.GroupStoreLaws.{outcome, refresh-masters-packed}
 use Rattle.blocks_group.proofs.QueryLaws.{applied-above-packed, first-applied-packed}
 use Rattle.blocks_group.specs.GroupArrays.{answered-master, master-at, master-seqno, remove-master, when-found}
 use Rattle.blocks_group.specs.GroupLayout.{pack-master-group}
@@ -313,7 +314,10 @@ module _ (c : Cache) (q : ExtractRequest) (places : ℕ) where
 
   -- zeros where the answer hands out nothing
   pub plain-zeroed : result .extract ≡ zeroed-extract (result .extract)
-  plain-zeroed = plain-any (λ (p : PlainExtract). p .extract ≡ zeroed-extract (p .extract)) c places (λ n c′. refl) (λ c′. refl) (λ last M m s l. refl) (λ M m s l. refl) q
+  plain-zeroed = plain-any (λ (p : PlainExtract). p .extract ≡ zeroed-extract (p .extract)) c places (λ n c′. refl) (λ c′. refl) (λ last M m s l. whole-master (popped-extract last) M m) (λ M m s l. whole-master extracted-answer M m) q
+    where
+      whole-master : (a : ExtractAnswer) (M : Entry) (m : Model) → an-extract a M (extraction-of M (view c)) m .extract ≡ with-master (pack-master (view-master (pack-master M))) (an-extract a M (extraction-of M (view c)) m .extract)
+      whole-master a M m = ap (λ (e : Entry). with-master (pack-master e) (an-extract a M (extraction-of M (view c)) m .extract)) (sym (view-pack-entry M))
 
   -- zeros after the joined blocks
   pub plain-blocks : result .blocks ≡ padded 128 zero-entry (joined-blocks result)
@@ -330,3 +334,39 @@ module _ (c : Cache) (q : ExtractRequest) (places : ℕ) where
     where
       few : (M : Entry) → sound-cache c ≡ true → 128 ≤ places → (length (extraction-of M (view c) .joined) ≤ 128) × (length (extraction-of M (view c) .joined) ≤ places)
       few M s l = let n = records-suffice (view c) M (sound-cache-packed c s .1) in (n, omega arith)
+
+  -- the joined blocks are as many as it says
+  joined-length : length (joined-blocks result) ≡ result .extract .joined
+  joined-length = plain-any (λ (p : PlainExtract). length (joined-blocks p) ≡ p .extract .joined) c places (λ n c′. refl) (λ c′. refl) (λ last M m s l. long M) (λ M m s l. long M) q
+    where
+      long : (M : Entry) → length (take (length (extraction-of M (view c) .joined)) (padded 128 zero-entry (each pack-entry (extraction-of M (view c) .joined)))) ≡ length (extraction-of M (view c) .joined)
+      long M = let bs = extraction-of M (view c) .joined in ap length (take-padded-each 128 zero-entry pack-entry bs) ∙ length-each pack-entry bs
+
+-- ===== a slice filled from its front =====
+
+-- of an answer, a request and a slice of so many places: what a function that fills the slice from it promises, and what it needs
+pub record PlainExtracts (c : Cache) (q : ExtractRequest) (places : ℕ) (p : PlainExtract) : Type 0 where
+  pub outcome : (lent : List BlockCacheEntry) → length lent ≡ places → extract-outcome (p .extract) (filled-at 0 (p .extract .joined) (p .blocks) lent) ≡ extract-on c q lent
+  pub zeroed : p .extract ≡ zeroed-extract (p .extract)
+  pub fits : p .extract .joined ≤ places
+  pub few : p .extract .joined ≤ 128
+
+decodes : (c : Cache) (q : ExtractRequest) (lent : List BlockCacheEntry) → plain-outcome (plain-extract c q (length lent)) lent ≡ extract-on c q lent
+unfolding some-id
+decodes c (pop-request f) lent = pop-decodes c lent f
+decodes c (sync-request n) lent = sync-decodes c lent (some-id n)
+
+pub plain-extracts : (c : Cache) (q : ExtractRequest) (places : ℕ) → PlainExtracts c q places (plain-extract c q places)
+plain-extracts c q places =
+    record {
+      outcome = λ lent e. subst (λ (k : ℕ). extract-outcome (plain-extract c q k .extract) (filled-at 0 (plain-extract c q k .extract .joined) (plain-extract c q k .blocks) lent) ≡ extract-on c q lent) e (filled lent);
+      zeroed = plain-zeroed c q places;
+      fits = plain-few c q places .1;
+      few = plain-few c q places .0;
+    }
+  where
+    filled : (lent : List BlockCacheEntry) →
+        extract-outcome (plain-extract c q (length lent) .extract) (filled-at 0 (plain-extract c q (length lent) .extract .joined) (plain-extract c q (length lent) .blocks) lent) ≡ extract-on c q lent
+    filled lent =
+        ap (λ (k : ℕ). extract-outcome (plain-extract c q (length lent) .extract) (joined-blocks (plain-extract c q (length lent)) ++ drop k lent)) (sym (joined-length c q (length lent)))
+        ∙ decodes c q lent

@@ -24,7 +24,7 @@ use Rattle.block_records.specs.EntryLayout.{pack-entry, pack-master}
 use Rattle.block_records.specs.Lists.{each, last, padded, pick}
 use Rattle.block_records.specs.Questions.{Question, ask, first-no}
 use Rattle.block_records.specs.Zeros.{zero-entry, zero-master}
-use Rattle.blocks_cache.specs.CacheLayout.{HeldOutcome, pack, pack-range, sound-cache, view, view-range}
+use Rattle.blocks_cache.specs.CacheLayout.{HeldOutcome, call-on, pack, pack-range, sound-cache, view, view-range}
 use Rattle.blocks_cache.specs.Calls.{Answer, Extract, Request, already-extracted, extracted, pop, popped, refused, sync}
 use Rattle.blocks_cache.specs.Effects.{pop-entry, sync-entry}
 use Rattle.blocks_cache.specs.Extraction.{Walk, extract, extraction-of}
@@ -133,10 +133,18 @@ answer-of r (refused-extract n) = refused n
 abbrev pub extract-outcome : SubgraphExtract → List BlockCacheEntry → HeldOutcome
 extract-outcome r slice = record { cache = r .cache; answer = answer-of r (r .answer); slice = slice }
 
--- zeros where the answer hands out nothing
+-- a request as a call on the cache, with the slice that is lent
+abbrev pub extract-on : Cache → ExtractRequest → List BlockCacheEntry → HeldOutcome
+extract-on c (pop-request f) lent = call-on c (record { request = pop f; lent = lent })
+extract-on c (sync-request n) lent = call-on c (record { request = sync (some-id n); lent = lent })
+
+abbrev pub with-master : MasterBlock → SubgraphExtract → SubgraphExtract
+with-master b r = record { answer = r .answer; master = b; joined = r .joined; taken = r .taken; cache = r .cache }
+
+-- zeros in M's unused places, and everywhere where the answer hands out nothing
 abbrev pub zeroed-by : SubgraphExtract → ExtractAnswer → SubgraphExtract
-zeroed-by r (popped-extract last) = r
-zeroed-by r extracted-answer = r
+zeroed-by r (popped-extract last) = with-master (pack-master (view-master (r .master))) r
+zeroed-by r extracted-answer = with-master (pack-master (view-master (r .master))) r
 zeroed-by r already-answer = record { answer = r .answer; master = zero-master; joined = 0; taken = 0; cache = r .cache }
 zeroed-by r (refused-extract n) = record { answer = r .answer; master = zero-master; joined = 0; taken = 0; cache = r .cache }
 

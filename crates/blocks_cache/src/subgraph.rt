@@ -52,7 +52,7 @@ pub struct SubgraphExtract {
 }
 
 // The same with the joined blocks, and zeros after them.
-pub(crate) struct PlainExtract {
+pub struct PlainExtract {
     pub extract: SubgraphExtract,
     pub blocks: [BlockCacheEntry; 128],
 }

@@ -1,0 +1,90 @@
+// Document 01, Whole cache: blocks go to the front of a lent slice of records; the rest is untouched.
+ghost use mathlib.Core.Path.{_≡_};
+ghost use Prim.Native.Nat.{_+_, _≤_};
+ghost use lib.ListN.{length};
+ghost use Rattle.blocks_cache.specs.LentSlices.{filled-at};
+ghost use Rattle.blocks_cache.specs.Subgraphs.{extract-on, extract-outcome, zeroed-extract};
+ghost use Rattle.blocks_cache.specs.declared.subgraph.ExtractRequest.the-variants.{Pop as pop-request, Sync as sync-request};
+use crate::cache::Cache;
+use crate::subgraph::ExtractRequest;
+use crate::subgraph::PlainExtract;
+use crate::subgraph::SubgraphExtract;
+use crate::subgraph::extract_plain;
+use block_records::block_id::BlockId;
+use block_records::entry::BlockCacheEntry;
+
+// The first n blocks go into the slice from a place on; what stands before and after them stays.
+pub(crate) fn fill(out: &mut [BlockCacheEntry], at: usize, blocks: [BlockCacheEntry; 128], n: usize)
+    requires { ⌜ (at + n ≤ length (now out)) × (n ≤ 128) ⌝ }
+    ensures { λ _. ⌜ now (out .exit) ≡ filled-at at n blocks (now (out .entry)) ⌝ }
+{
+    let mut i: usize = 0;
+    while i < n {
+        out[at + i] = blocks[i];
+        i += 1;
+    }
+}
+
+// A request's extraction; the blocks go to the front of the lent slice.
+pub fn extract_mc_block_subgraph(
+    cache: Cache,
+    request: ExtractRequest,
+    out: &mut [BlockCacheEntry],
+) -> SubgraphExtract
+    ensures { λ r. ⌜ (extract-outcome r (now (out .exit)) ≡ extract-on cache request (now (out .entry))) × (r ≡ zeroed-extract r) ⌝ }
+{
+    let plain = extract_plain(cache, request, out.len());
+    let extract = plain.extract;
+    fill(out, 0, plain.blocks, extract.joined);
+    extract
+}
+
+pub fn pop_front_applied_mc_block_subgraph(
+    cache: Cache,
+    from: u32,
+    out: &mut [BlockCacheEntry],
+) -> SubgraphExtract
+    ensures { λ r. ⌜ (extract-outcome r (now (out .exit)) ≡ extract-on cache (pop-request from) (now (out .entry))) × (r ≡ zeroed-extract r) ⌝ }
+{
+    let request = ExtractRequest::Pop(from);
+    extract_mc_block_subgraph(cache, request, out)
+}
+
+pub fn extract_mc_block_subgraph_for_sync(
+    cache: Cache,
+    block_id: BlockId,
+    out: &mut [BlockCacheEntry],
+) -> SubgraphExtract
+    ensures { λ r. ⌜ (extract-outcome r (now (out .exit)) ≡ extract-on cache (sync-request («block_id» .seqno)) (now (out .entry))) × (r ≡ zeroed-extract r) ⌝ }
+{
+    let request = ExtractRequest::Sync(block_id.seqno);
+    extract_mc_block_subgraph(cache, request, out)
+}
+
+// Pop for callers that can't lend a slice of records: it is lent from a local array.
+pub fn pop_to_array(cache: Cache, from: u32, blocks: [BlockCacheEntry; 128]) -> PlainExtract
+    ensures { λ r. ⌜ (extract-outcome (r .extract) (r .blocks) ≡ extract-on cache (pop-request from) blocks) × (r .extract ≡ zeroed-extract (r .extract)) ⌝ }
+{
+    let mut out = blocks;
+    let extract = pop_front_applied_mc_block_subgraph(cache, from, &mut out[..]);
+    PlainExtract {
+        extract,
+        blocks: out,
+    }
+}
+
+// The same of sync extraction.
+pub fn sync_to_array(
+    cache: Cache,
+    block_id: BlockId,
+    blocks: [BlockCacheEntry; 128],
+) -> PlainExtract
+    ensures { λ r. ⌜ (extract-outcome (r .extract) (r .blocks) ≡ extract-on cache (sync-request («block_id» .seqno)) blocks) × (r .extract ≡ zeroed-extract (r .extract)) ⌝ }
+{
+    let mut out = blocks;
+    let extract = extract_mc_block_subgraph_for_sync(cache, block_id, &mut out[..]);
+    PlainExtract {
+        extract,
+        blocks: out,
+    }
+}
