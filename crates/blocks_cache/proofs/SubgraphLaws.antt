@@ -356,6 +356,10 @@ unfolding some-id
 decodes c (pop-request f) lent = pop-decodes c lent f
 decodes c (sync-request n) lent = sync-decodes c lent (some-id n)
 
+-- sync extraction does not look at the rest of the id
+pub sync-any-id : (c : Cache) (lent : List BlockCacheEntry) (i : BlockId) → extract-on c (sync-request (i .seqno)) lent ≡ call-on c (record { request = sync i; lent = lent })
+sync-any-id c lent i = sym (decodes c (sync-request (i .seqno)) lent) ∙ sync-decodes c lent i
+
 pub plain-extracts : (c : Cache) (q : ExtractRequest) (places : ℕ) → PlainExtracts c q places (plain-extract c q places)
 plain-extracts c q places =
     record {

@@ -4,7 +4,8 @@ ghost use Prim.Native.Nat.{_+_, _≤_};
 ghost use lib.ListN.{length};
 ghost use Rattle.blocks_cache.specs.LentSlices.{filled-at};
 ghost use Rattle.blocks_cache.specs.Subgraphs.{extract-on, extract-outcome, zeroed-extract};
-ghost use Rattle.blocks_cache.specs.declared.subgraph.ExtractRequest.the-variants.{Pop as pop-request, Sync as sync-request};
+ghost use Rattle.blocks_cache.specs.CacheLayout.{call-on};
+ghost use Rattle.blocks_cache.specs.Calls.{pop, sync};
 use crate::cache::Cache;
 use crate::subgraph::ExtractRequest;
 use crate::subgraph::PlainExtract;
@@ -44,7 +45,7 @@ pub fn pop_front_applied_mc_block_subgraph(
     from: u32,
     out: &mut [BlockCacheEntry],
 ) -> SubgraphExtract
-    ensures { λ r. ⌜ (extract-outcome r (now (out .exit)) ≡ extract-on cache (pop-request from) (now (out .entry))) × (r ≡ zeroed-extract r) ⌝ }
+    ensures { λ r. ⌜ (extract-outcome r (now (out .exit)) ≡ call-on cache (record { request = pop from; lent = now (out .entry) })) × (r ≡ zeroed-extract r) ⌝ }
 {
     let request = ExtractRequest::Pop(from);
     extract_mc_block_subgraph(cache, request, out)
@@ -55,7 +56,7 @@ pub fn extract_mc_block_subgraph_for_sync(
     block_id: BlockId,
     out: &mut [BlockCacheEntry],
 ) -> SubgraphExtract
-    ensures { λ r. ⌜ (extract-outcome r (now (out .exit)) ≡ extract-on cache (sync-request («block_id» .seqno)) (now (out .entry))) × (r ≡ zeroed-extract r) ⌝ }
+    ensures { λ r. ⌜ (extract-outcome r (now (out .exit)) ≡ call-on cache (record { request = sync «block_id»; lent = now (out .entry) })) × (r ≡ zeroed-extract r) ⌝ }
 {
     let request = ExtractRequest::Sync(block_id.seqno);
     extract_mc_block_subgraph(cache, request, out)
@@ -63,7 +64,7 @@ pub fn extract_mc_block_subgraph_for_sync(
 
 // Pop for callers that can't lend a slice of records: it is lent from a local array.
 pub fn pop_to_array(cache: Cache, from: u32, blocks: [BlockCacheEntry; 128]) -> PlainExtract
-    ensures { λ r. ⌜ (extract-outcome (r .extract) (r .blocks) ≡ extract-on cache (pop-request from) blocks) × (r .extract ≡ zeroed-extract (r .extract)) ⌝ }
+    ensures { λ r. ⌜ (extract-outcome (r .extract) (r .blocks) ≡ call-on cache (record { request = pop from; lent = blocks })) × (r .extract ≡ zeroed-extract (r .extract)) ⌝ }
 {
     let mut out = blocks;
     let extract = pop_front_applied_mc_block_subgraph(cache, from, &mut out[..]);
@@ -79,7 +80,7 @@ pub fn sync_to_array(
     block_id: BlockId,
     blocks: [BlockCacheEntry; 128],
 ) -> PlainExtract
-    ensures { λ r. ⌜ (extract-outcome (r .extract) (r .blocks) ≡ extract-on cache (sync-request («block_id» .seqno)) blocks) × (r .extract ≡ zeroed-extract (r .extract)) ⌝ }
+    ensures { λ r. ⌜ (extract-outcome (r .extract) (r .blocks) ≡ call-on cache (record { request = sync «block_id»; lent = blocks })) × (r .extract ≡ zeroed-extract (r .extract)) ⌝ }
 {
     let mut out = blocks;
     let extract = extract_mc_block_subgraph_for_sync(cache, block_id, &mut out[..]);

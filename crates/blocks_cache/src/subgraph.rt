@@ -2,7 +2,6 @@
 ghost use mathlib.Core.Path.{_≡_};
 ghost use mathlib.Core.Bool.{true};
 ghost use Rattle.blocks_group.specs.GroupRules.{at-seqno};
-ghost use Rattle.blocks_group.specs.GroupStores.{refresh-masters};
 ghost use Rattle.blocks_cache.specs.CacheLayout.{sound-cache, view};
 ghost use Rattle.blocks_cache.specs.Model.{first-applied};
 ghost use Rattle.blocks_cache.specs.Subgraphs.{hand-out, no-extract, plain-extract, pop-plain, move-applied-start, request-seqno, sync-plain};
@@ -20,13 +19,12 @@ use block_records::entry::is_applied;
 use block_records::entry::zero_entry;
 use block_records::entry::zero_master;
 use block_records::questions::seqno_fits;
-use blocks_group::group::Group;
 use blocks_group::group::MasterGroup;
 use blocks_group::group::master_at;
 use blocks_group::group::remove_master;
-use blocks_group::mark::refreshed_mark;
 use blocks_group::queries::applied_above;
 use blocks_group::queries::first_applied_master;
+use blocks_group::refresh::refresh_masters;
 use blocks_group::search::Found;
 
 // Pop from a seqno on; sync extraction at a seqno.
@@ -137,28 +135,6 @@ fn pop_plain(cache: Cache, from: u32) -> PlainExtract
     hand_out(cache, answer, master, left, range, extraction)
 }
 
-// The mark's rule, of the master group.
-fn refresh_masters(seqno: u32, masters: MasterGroup) -> MasterGroup
-    ensures { λ r. ⌜ r ≡ refresh-masters seqno masters ⌝ }
-{
-    let group = masters.group;
-    let entries = group.entries;
-    let old = group.mark;
-    let mark = refreshed_mark(seqno, old);
-    let boundary = group.boundary;
-    let refreshed = Group {
-        entries,
-        count: group.count,
-        mark,
-        boundary,
-    };
-    let tops = masters.tops;
-    MasterGroup {
-        group: refreshed,
-        tops,
-    }
-}
-
 // If M is applied, the start moves by it.
 fn move_applied_start(range: AppliedRange, master: MasterBlock) -> AppliedRange
     ensures { λ r. ⌜ r ≡ move-applied-start range master ⌝ }
@@ -185,7 +161,7 @@ fn sync_plain(cache: Cache, seqno: u32) -> PlainExtract
     let answer = ExtractAnswer::Extracted;
     let extraction = extract(cache, master);
     let removed = remove_master(masters, master.entry.block_id.seqno);
-    let left = refresh_masters(master.entry.block_id.seqno, removed);
+    let left = refresh_masters(removed, master.entry.block_id.seqno);
     let data = cache.data;
     let old = data.range;
     let range = move_applied_start(old, master);

@@ -1,6 +1,6 @@
 -- A walk of the function's MIR, by hand: the request is made of the id's seqno, and the lent slice is passed on to `extract_mc_block_subgraph` for good (`ExtractCallWalk`).
 -- Assumes nothing.
-use mathlib.Core.Path.{_≡_, refl, ap, subst, sym}
+use mathlib.Core.Path.{_≡_, _∙_, refl}
 use Prim.Native.Nat.{ℕ, _<_, _^_}
 use mathlib.Core.List.{[], _∷_, List}
 use lib.ListN.{length}
@@ -50,6 +50,7 @@ use Rattle.blocks_cache.proofs.subgraph.ExtractRequest as Q
 use Rattle.blocks_cache.proofs.subgraph.ExtractRequest.Laws as Q′
 use Rattle.blocks_cache.proofs.subgraph.SubgraphExtract as X
 use Rattle.blocks_cache.proofs.subgraph.SubgraphExtract.Laws as X′
+use Rattle.blocks_cache.proofs.SubgraphLaws.{sync-any-id}
 use Rattle.blocks_cache.proofs.ExtractCallWalk.{Extract, Good, Said, cache-val, calls-extract, had, lent, middle, request-val}
 use Rattle.blocks_cache.proofs.lent.extract_mc_block_subgraph.Symbol as extract-def
 use Rattle.blocks_cache.proofs.lent.extract_mc_block_subgraph.Symbol.{name as #extract}
@@ -94,7 +95,7 @@ module _ {M : Type 1} (𝓤 : URA M) (H : Heap 𝓤) (A : Atoms 𝓤) (W : Given
   exits r v zs is e l =
       qed W (‵ (flft κ q) ∷ ‵ (finally E.the-row γ zs) ∷ []) ∵
       suffices ! _ (ends-at 𝓤 H A sync.ended stayed (sync.clauses 𝓤 H A at-mem run) W (((κ, tt), (q, tt), tt, x, at), tt) v r (tt, (tt, (zs, tt))) (tt, (tt, (l, tt)))) $
-      says ! e $ nothing ! $ move ! (1 ∷ 0 ∷ []) $ join ! $ frame ! $
+      says ! (e .0 ∙ sync-any-id c ys a, e .1) $ nothing ! $ move ! (1 ∷ 0 ∷ []) $ join ! $ frame ! $
       nothing ! $ move ! (1 ∷ 0 ∷ []) $ fjoin ! $ nothing ! $ fjoin ! $ nothing ! $ fjoin ! $ frame ! $ owned ! X.the-row (Is X.the-row) (LL.makes X.the-type X′.the-plain 𝓤 H A) r _ is $ done !
 
   leave : (r : SubgraphExtract) (v : Val) → Is X.the-row r (v ∷ []) → ent 𝓤 (mean 𝓤 H A (had 𝓤 H A W at-mem run κ q c (request a) b o γ ys c-is q-is r)) (Post v)

@@ -1,6 +1,6 @@
 -- A walk of the function's MIR, by hand: the request is made of the seqno to start from, and the lent slice is passed on to `extract_mc_block_subgraph` for good (`ExtractCallWalk`).
 -- Assumes nothing.
-use mathlib.Core.Path.{_≡_, refl, ap, subst, sym}
+use mathlib.Core.Path.{_≡_, refl}
 use Prim.Native.Nat.{ℕ, _<_, _^_}
 use mathlib.Core.List.{[], _∷_, List}
 use lib.ListN.{length}

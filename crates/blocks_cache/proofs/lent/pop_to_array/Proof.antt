@@ -40,10 +40,11 @@ use denote.Triple.Clauses.{ensured, lasts}
 use denote.Exit.{yes}
 use Rattle.block_records.specs.declared.entry.BlockCacheEntry.{BlockCacheEntry}
 use Rattle.blocks_cache.specs.declared.cache.Cache.{Cache}
-use Rattle.blocks_cache.specs.declared.subgraph.ExtractRequest.the-variants.{Pop as pop-request}
 use Rattle.blocks_cache.specs.declared.subgraph.PlainExtract.{PlainExtract}
 use Rattle.blocks_cache.specs.declared.subgraph.SubgraphExtract.{SubgraphExtract}
-use Rattle.blocks_cache.specs.Subgraphs.{extract-on, extract-outcome, zeroed-extract}
+use Rattle.blocks_cache.specs.CacheLayout.{call-on}
+use Rattle.blocks_cache.specs.Calls.{pop}
+use Rattle.blocks_cache.specs.Subgraphs.{extract-outcome, zeroed-extract}
 use Rattle.block_records.proofs.entry.BlockCacheEntry as E
 use Rattle.block_records.proofs.entry.BlockCacheEntry.Laws as E′
 use Rattle.blocks_cache.proofs.cache.Cache as K
@@ -96,7 +97,7 @@ module _ {M : Type 1} (𝓤 : URA M) (H : Heap 𝓤) (A : Atoms 𝓤) (W : Given
 
   -- what is promised of the answer and of the list that comes back
   abbrev Said : SubgraphExtract → List BlockCacheEntry → Type 0
-  Said r zs = (extract-outcome r zs ≡ extract-on c (pop-request a) bs) × (r ≡ zeroed-extract r)
+  Said r zs = (extract-outcome r zs ≡ call-on c (record { request = pop a; lent = bs })) × (r ≡ zeroed-extract r)
 
   module _ (C : Calls 𝓤 H) (Λ : Loops 𝓤 H) (fm : FmC 𝓤 H (W .laws) C) (known : Triple 𝓤 (C #callee) (Callee 𝓤 H A at-mem run)) where
     abbrev Good′ : PlainExtract → Type 0

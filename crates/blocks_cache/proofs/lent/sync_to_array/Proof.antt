@@ -40,10 +40,11 @@ use denote.Exit.{yes}
 use Rattle.block_records.specs.declared.block_id.BlockId.{BlockId}
 use Rattle.block_records.specs.declared.entry.BlockCacheEntry.{BlockCacheEntry}
 use Rattle.blocks_cache.specs.declared.cache.Cache.{Cache}
-use Rattle.blocks_cache.specs.declared.subgraph.ExtractRequest.the-variants.{Sync as sync-request}
 use Rattle.blocks_cache.specs.declared.subgraph.PlainExtract.{PlainExtract}
 use Rattle.blocks_cache.specs.declared.subgraph.SubgraphExtract.{SubgraphExtract}
-use Rattle.blocks_cache.specs.Subgraphs.{extract-on, extract-outcome, zeroed-extract}
+use Rattle.blocks_cache.specs.CacheLayout.{call-on}
+use Rattle.blocks_cache.specs.Calls.{sync}
+use Rattle.blocks_cache.specs.Subgraphs.{extract-outcome, zeroed-extract}
 use Rattle.block_records.proofs.entry.BlockCacheEntry as E
 use Rattle.block_records.proofs.entry.BlockCacheEntry.Laws as E′
 use Rattle.block_records.proofs.block_id.BlockId as I
@@ -101,7 +102,7 @@ module _ {M : Type 1} (𝓤 : URA M) (H : Heap 𝓤) (A : Atoms 𝓤) (W : Given
 
   -- what is promised of the answer and of the list that comes back
   abbrev Said : SubgraphExtract → List BlockCacheEntry → Type 0
-  Said r zs = (extract-outcome r zs ≡ extract-on c (sync-request (a .seqno)) bs) × (r ≡ zeroed-extract r)
+  Said r zs = (extract-outcome r zs ≡ call-on c (record { request = sync a; lent = bs })) × (r ≡ zeroed-extract r)
 
   module _ (C : Calls 𝓤 H) (Λ : Loops 𝓤 H) (fm : FmC 𝓤 H (W .laws) C) (known : Triple 𝓤 (C #callee) (Callee 𝓤 H A at-mem run)) where
     abbrev Good′ : PlainExtract → Type 0
