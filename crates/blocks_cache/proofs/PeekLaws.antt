@@ -210,18 +210,18 @@ module _ (m : ℕ) (c : Cache) (l : List TopBlock) (listed : ℕ) where
 
   module _ (i n : ℕ) (out : List PeekRow) (v : Viewed i n out) where
     -- nothing is left
-    view-end : left l listed i ≡ [] → record { rows = out; count = n; missing = no-missing } ≡ pack-view (view-of (take listed l))
+    view-end : left l listed i ≡ [] → record { rows = out; count = n; gap = no-missing } ≡ pack-view (view-of (take listed l))
     view-end e =
         let w : after-rows (v .seen-rows) (record { rows = []; missing = none }) ≡ record { rows = v .seen-rows; missing = none } = rw append-nil in
         let q = v .rest ∙ ap (λ (ts : List TopBlock). after-rows (v .seen-rows) (view-of ts)) e ∙ w in
         let a = v .places in
         let b = v .count in
-        (λ j. record { rows = a j; count = b j; missing = no-missing }) ∙ ap pack-view (sym q)
+        (λ j. record { rows = a j; count = b j; gap = no-missing }) ∙ ap pack-view (sym q)
 
-    pub view-passed : listed ≤ i → record { rows = out; count = n; missing = no-missing } ≡ pack-view (held-tops m c (filter (starts (c .«zerostate_mc_seqno»)) (take listed l)))
+    pub view-passed : listed ≤ i → record { rows = out; count = n; gap = no-missing } ≡ pack-view (held-tops m c (filter (starts (c .«zerostate_mc_seqno»)) (take listed l)))
     view-passed h = view-end (left-passed l listed i h)
 
-    pub view-over : length l ≤ i → record { rows = out; count = n; missing = no-missing } ≡ pack-view (held-tops m c (filter (starts (c .«zerostate_mc_seqno»)) (take listed l)))
+    pub view-over : length l ≤ i → record { rows = out; count = n; gap = no-missing } ≡ pack-view (held-tops m c (filter (starts (c .«zerostate_mc_seqno»)) (take listed l)))
     view-over h = view-end (left-over l listed i h)
 
     -- d is any item
@@ -240,14 +240,14 @@ module _ (m : ℕ) (c : Cache) (l : List TopBlock) (listed : ℕ) where
         starting = rw (more, t)
 
         pub view-stop : x .seen ≡ false → (s : BlockIdShort) → s ≡ key (getD l i d .«block_id») →
-            record { rows = out; count = n; missing = missing-at s } ≡ pack-view (held-tops m c (filter (starts (c .«zerostate_mc_seqno»)) (take listed l)))
+            record { rows = out; count = n; gap = missing-at s } ≡ pack-view (held-tops m c (filter (starts (c .«zerostate_mc_seqno»)) (take listed l)))
         view-stop y s es =
             let o = seen-no (top-row m c (getD l i d)) x e y in
             let w : after-rows (v .seen-rows) (record { rows = []; missing = some (key (getD l i d .«block_id»)) }) ≡ record { rows = v .seen-rows; missing = some (key (getD l i d .«block_id»)) } = rw append-nil in
             let q = v .rest ∙ ap (after-rows (v .seen-rows)) (starting ∙ ap (λ (r : Option Row). seen-held (getD l i d) r (view-of (left l listed (i + 1)))) o) ∙ w in
             let a = v .places in
             let b = v .count in
-            (λ j. record { rows = a j; count = b j; missing = missing-at (es j) }) ∙ ap pack-view (sym q)
+            (λ j. record { rows = a j; count = b j; gap = missing-at (es j) }) ∙ ap pack-view (sym q)
 
         pub view-more : x .seen ≡ true → i < 8 → Viewed (i + 1) (n + 1) (set out n (x .row))
         view-more y b =

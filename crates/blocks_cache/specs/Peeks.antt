@@ -106,12 +106,12 @@ held-tops m c (t ∷ ts) = seen-held t (top-row m c t) (held-tops m c ts)
 
 -- the rows first, zeros after them
 abbrev pub pack-view : View → TopRows
-pack-view v = record { rows = padded 8 zero-row (each pack-row (v .rows)); count = length (v .rows); missing = pack-missing (v .missing) }
+pack-view v = record { rows = padded 8 zero-row (each pack-row (v .rows)); count = length (v .rows); gap = pack-missing (v .missing) }
 
 -- ===== peek =====
 
 abbrev pub found-peek : PeekRow → TopRows → Peek
-found-peek master v = record { answer = peek-found; master = master; tops = v .rows; count = v .count; missing = v .missing }
+found-peek master v = record { answer = peek-found; master = master; tops = v .rows; count = v .count; missing = v .gap }
 
 -- the entry pop would choose, or Nothing; then its starting items
 abbrev pub peek-block : Cache → Option MasterBlock → Peek

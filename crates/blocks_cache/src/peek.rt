@@ -57,7 +57,7 @@ pub(crate) struct SeenTop {
 pub(crate) struct TopRows {
     pub rows: [PeekRow; 8],
     pub count: usize,
-    pub missing: MissingTop,
+    pub gap: MissingTop,
 }
 
 fn zero_row() -> PeekRow
@@ -129,11 +129,8 @@ fn view_tops(cache: Cache, seqno: u32, tops: TopBlocks) -> TopRows
     let mut i: usize = 0;
     while i < 8 {
         if listed <= i {
-            return TopRows {
-                rows,
-                count,
-                missing: MissingTop::Absent,
-            };
+            let gap = MissingTop::Absent;
+            return TopRows { rows, count, gap };
         }
         let item = items[i];
         if !is_starting(item, cache.zerostate_mc_seqno) {
@@ -143,22 +140,16 @@ fn view_tops(cache: Cache, seqno: u32, tops: TopBlocks) -> TopRows
         let top = top_row(cache, seqno, item);
         if !top.seen {
             let short = key(item.block_id);
-            return TopRows {
-                rows,
-                count,
-                missing: MissingTop::At(short),
-            };
+            let gap = MissingTop::At(short);
+            return TopRows { rows, count, gap };
         }
         let row = top.row;
         rows[count] = row;
         count += 1;
         i += 1;
     }
-    TopRows {
-        rows,
-        count,
-        missing: MissingTop::Absent,
-    }
+    let gap = MissingTop::Absent;
+    TopRows { rows, count, gap }
 }
 
 // The lowest applied master at or above a seqno, and its starting items.
@@ -181,7 +172,7 @@ fn peek_master(cache: Cache, from: u32) -> Peek
     };
     let view = view_tops(cache, id.seqno, block.tops);
     let rows = view.rows;
-    let missing = view.missing;
+    let missing = view.gap;
     Peek {
         answer: PeekAnswer::Found,
         master,
