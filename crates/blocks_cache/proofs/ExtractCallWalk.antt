@@ -32,15 +32,15 @@ use denote.Triple.Spec.{tripleOf}
 use denote.Triple.Clauses.{ensured, lasts}
 use Rattle.block_records.specs.declared.entry.BlockCacheEntry.{BlockCacheEntry}
 use Rattle.blocks_cache.specs.declared.cache.Cache.{Cache}
-use Rattle.blocks_cache.specs.declared.subgraph.ExtractRequest.{ExtractRequest}
-use Rattle.blocks_cache.specs.declared.subgraph.SubgraphExtract.{SubgraphExtract}
+use Rattle.blocks_cache.specs.declared.extraction.ExtractRequest.{ExtractRequest}
+use Rattle.blocks_cache.specs.declared.extraction.SubgraphExtract.{SubgraphExtract}
 use Rattle.blocks_cache.specs.Subgraphs.{extract-on, extract-outcome, zeroed-extract}
 use Rattle.block_records.proofs.entry.BlockCacheEntry as E
 use Rattle.blocks_cache.proofs.cache.Cache as K
 use Rattle.blocks_cache.proofs.cache.Cache.Laws as K′
-use Rattle.blocks_cache.proofs.subgraph.ExtractRequest as Q
-use Rattle.blocks_cache.proofs.subgraph.ExtractRequest.Laws as Q′
-use Rattle.blocks_cache.proofs.subgraph.SubgraphExtract as X
+use Rattle.blocks_cache.proofs.extraction.ExtractRequest as Q
+use Rattle.blocks_cache.proofs.extraction.ExtractRequest.Laws as Q′
+use Rattle.blocks_cache.proofs.extraction.SubgraphExtract as X
 use Rattle.blocks_cache.proofs.lent.extract_mc_block_subgraph as extract
 use Rattle.blocks_cache.proofs.lent.extract_mc_block_subgraph.Symbol.{name as #extract}
 

@@ -37,13 +37,13 @@ use denote.Steps.{only, owned, peeks}
 use denote.Struct.Steps.{spelt}
 use denote.Struct.Laws as LL
 use Rattle.block_records.specs.declared.entry.BlockCacheEntry.{BlockCacheEntry}
-use Rattle.blocks_cache.specs.declared.subgraph.PlainExtract.{PlainExtract}
-use Rattle.blocks_cache.specs.declared.subgraph.SubgraphExtract.{SubgraphExtract}
+use Rattle.blocks_cache.specs.declared.extraction.PlainExtract.{PlainExtract}
+use Rattle.blocks_cache.specs.declared.extraction.SubgraphExtract.{SubgraphExtract}
 use Rattle.blocks_cache.proofs.ArrayFieldWalk.{array-val, array-val-tells}
 use Rattle.block_records.proofs.entry.BlockCacheEntry as E
 use Rattle.block_records.proofs.entry.BlockCacheEntry.Laws as E′
-use Rattle.blocks_cache.proofs.subgraph.SubgraphExtract as X
-use Rattle.blocks_cache.proofs.subgraph.SubgraphExtract.Laws as X′
+use Rattle.blocks_cache.proofs.extraction.SubgraphExtract as X
+use Rattle.blocks_cache.proofs.extraction.SubgraphExtract.Laws as X′
 
 module _ {M : Type 1} (𝓤 : URA M) (H : Heap 𝓤) (A : Atoms 𝓤) (W : Given 𝓤 H A) (R : RattleType) (one : Single (R .mir)) (n : ℕ) (l : ℕ) where
   abbrev arr : Ty

@@ -10,14 +10,14 @@ use Rattle.block_records.specs.declared.block_id.BlockId.{BlockId}
 use Rattle.block_records.specs.declared.entry.BlockCacheEntry.{BlockCacheEntry}
 use Rattle.block_records.specs.declared.entry.MasterBlock.{MasterBlock}
 use Rattle.blocks_cache.specs.declared.cache.Cache.{Cache}
+use Rattle.blocks_cache.specs.declared.extraction.ExtractAnswer.{ExtractAnswer}
+use Rattle.blocks_cache.specs.declared.extraction.ExtractAnswer.the-variants.{AlreadyExtracted as already-answer, Extracted as extracted-answer, Popped as popped-extract, Refused as refused-extract}
+use Rattle.blocks_cache.specs.declared.extraction.ExtractRequest.{ExtractRequest}
+use Rattle.blocks_cache.specs.declared.extraction.ExtractRequest.the-variants.{Pop as pop-request, Sync as sync-request}
 use Rattle.blocks_cache.specs.declared.extraction.Extraction.{Extraction}
+use Rattle.blocks_cache.specs.declared.extraction.PlainExtract.{PlainExtract}
+use Rattle.blocks_cache.specs.declared.extraction.SubgraphExtract.{SubgraphExtract}
 use Rattle.blocks_cache.specs.declared.master_data.AppliedRange.{AppliedRange}
-use Rattle.blocks_cache.specs.declared.subgraph.ExtractAnswer.{ExtractAnswer}
-use Rattle.blocks_cache.specs.declared.subgraph.ExtractAnswer.the-variants.{AlreadyExtracted as already-answer, Extracted as extracted-answer, Popped as popped-extract, Refused as refused-extract}
-use Rattle.blocks_cache.specs.declared.subgraph.ExtractRequest.{ExtractRequest}
-use Rattle.blocks_cache.specs.declared.subgraph.ExtractRequest.the-variants.{Pop as pop-request, Sync as sync-request}
-use Rattle.blocks_cache.specs.declared.subgraph.PlainExtract.{PlainExtract}
-use Rattle.blocks_cache.specs.declared.subgraph.SubgraphExtract.{SubgraphExtract}
 use Rattle.blocks_group.specs.declared.group.MasterGroup.{MasterGroup}
 use Rattle.block_records.specs.Entries.{Entry, kind-applied}
 use Rattle.block_records.specs.EntryLayout.{pack-entry, pack-master}

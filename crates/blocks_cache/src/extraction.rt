@@ -1,4 +1,4 @@
-// Document 01, Whole cache: Extraction. What is looked up are seqnos; the groups are moved together once, at the end.
+// Document 01, Whole cache: Extraction; pop and sync extraction, with the blocks beside the answer and the number of the lent slice's places given.
 ghost use mathlib.Core.Path.{_≡_};
 ghost use mathlib.Core.Bool.{true};
 ghost use Prim.Native.Nat.{_<_, _≤_};
@@ -14,8 +14,16 @@ ghost use Rattle.blocks_cache.specs.Extraction.{starts, extraction-of};
 ghost use Rattle.blocks_cache.specs.ExtractionArrays.{waiting-list, held-starting-ids, held-shard, group-seqnos, shard-seqnos, no-seqnos};
 ghost use Rattle.blocks_cache.specs.ExtractionArrays.{is-ident, cached-at, block-place, without-seqno, refresh-seqnos};
 ghost use Rattle.blocks_cache.specs.ExtractionArrays.{compact-group, compact-shard, compact-shards, backwards, view-master, pack-extraction};
+ghost use Rattle.blocks_group.specs.GroupRules.{at-seqno};
+ghost use Rattle.blocks_cache.specs.Model.{first-applied};
+ghost use Rattle.blocks_cache.specs.Subgraphs.{hand-out, no-extract, plain-extract, pop-plain, move-applied-start, request-seqno, sync-plain};
 use crate::cache::Cache;
 use crate::cache::ShardGroup;
+use crate::master_data::AppliedRange;
+use crate::master_data::MasterData;
+use crate::master_data::drop_ids_below;
+use crate::master_data::move_range_start;
+use crate::soundness::sound_cache;
 use block_records::block_id::BlockId;
 use block_records::block_id::ShardIdent;
 use block_records::block_id::id_shard;
@@ -24,12 +32,21 @@ use block_records::block_id::zero_id;
 use block_records::block_id::zero_shard;
 use block_records::entry::BlockCacheEntry;
 use block_records::entry::MasterBlock;
+use block_records::entry::is_applied;
 use block_records::entry::zero_entry;
+use block_records::entry::zero_master;
+use block_records::questions::seqno_fits;
 use block_records::top_block::TopBlocks;
 use block_records::top_block::zero_top;
 use blocks_group::group::Group;
+use blocks_group::group::MasterGroup;
+use blocks_group::group::master_at;
+use blocks_group::group::remove_master;
 use blocks_group::mark::Mark;
 use blocks_group::mark::refreshed_mark;
+use blocks_group::queries::applied_above;
+use blocks_group::queries::first_applied_master;
+use blocks_group::refresh::refresh_masters;
 use blocks_group::search::Found;
 
 // What an extraction leaves of the shard groups, the joined blocks (last joined first, zeros after them), how many they are and how many
@@ -316,7 +333,7 @@ fn last_first(blocks: [BlockCacheEntry; 128], count: usize) -> [BlockCacheEntry;
 
 // First in, first out: an entry found leaves the cache. If its reference is M's seqno it joins, its previous ids are queued and its
 // group's mark is refreshed; otherwise it is dropped.
-pub(crate) fn extract(cache: Cache, master: MasterBlock) -> Extraction
+fn extract(cache: Cache, master: MasterBlock) -> Extraction
     requires { ⌜ sound-cache cache ≡ true ⌝ }
     ensures { λ r. ⌜ r ≡ pack-extraction (extraction-of (view-master master) (view cache)) ⌝ }
 {
@@ -362,5 +379,180 @@ pub(crate) fn extract(cache: Cache, master: MasterBlock) -> Extraction
         blocks: subgraph,
         joined,
         taken: head,
+    }
+}
+
+// ===== pop and sync extraction =====
+
+// Pop from a seqno on; sync extraction at a seqno.
+pub enum ExtractRequest {
+    Pop(u32),
+    Sync(u32),
+}
+
+pub enum ExtractAnswer {
+    Popped { last: bool },
+    Extracted,
+    AlreadyExtracted,
+    Refused(u32),
+}
+
+// M with its top items, how many blocks joined it and how many ids were taken; zeros where the answer hands out nothing.
+pub struct SubgraphExtract {
+    pub answer: ExtractAnswer,
+    pub master: MasterBlock,
+    pub joined: usize,
+    pub taken: usize,
+    pub cache: Cache,
+}
+
+// The same with the joined blocks, and zeros after them.
+pub struct PlainExtract {
+    pub extract: SubgraphExtract,
+    pub blocks: [BlockCacheEntry; 128],
+}
+
+// Nothing is handed out.
+fn no_extract(answer: ExtractAnswer, cache: Cache) -> PlainExtract
+    ensures { λ r. ⌜ r ≡ no-extract answer cache ⌝ }
+{
+    let master = zero_master();
+    let extract = SubgraphExtract {
+        answer,
+        master,
+        joined: 0,
+        taken: 0,
+        cache,
+    };
+    let zero = zero_entry();
+    PlainExtract {
+        extract,
+        blocks: [zero; 128],
+    }
+}
+
+// M and its subgraph are handed out: the masters and the range as given, and ids below M's seqno go.
+fn hand_out(
+    cache: Cache,
+    answer: ExtractAnswer,
+    master: MasterBlock,
+    masters: MasterGroup,
+    range: AppliedRange,
+    extraction: Extraction,
+) -> PlainExtract
+    ensures { λ r. ⌜ r ≡ hand-out cache answer master masters range extraction ⌝ }
+{
+    let kept = drop_ids_below(cache.data, master.entry.block_id.seqno);
+    let ids = kept.ids;
+    let data = MasterData {
+        ids,
+        count: kept.count,
+        range,
+    };
+    let shards = extraction.shards;
+    let left = Cache {
+        zerostate_mc_seqno: cache.zerostate_mc_seqno,
+        masters,
+        data,
+        shards,
+        shard_count: cache.shard_count,
+    };
+    let extract = SubgraphExtract {
+        answer,
+        master,
+        joined: extraction.joined,
+        taken: extraction.taken,
+        cache: left,
+    };
+    let blocks = extraction.blocks;
+    PlainExtract { extract, blocks }
+}
+
+// Pop: the lowest applied master at or above a seqno leaves, and the start moves by it.
+fn pop_plain(cache: Cache, from: u32) -> PlainExtract
+    requires { ⌜ sound-cache cache ≡ true ⌝ }
+    ensures { λ r. ⌜ r ≡ pop-plain (first-applied from (view cache)) (view cache) ⌝ }
+{
+    let masters = cache.masters;
+    let first = first_applied_master(masters, from);
+    let found = first.found;
+    let Found::At(at) = found else {
+        let answer = ExtractAnswer::Refused(11);
+        return no_extract(answer, cache);
+    };
+    let master = first.block;
+    let seqno = master.entry.block_id.seqno;
+    let above = applied_above(masters.group, seqno);
+    let answer = ExtractAnswer::Popped { last: !above };
+    let extraction = extract(cache, master);
+    let left = remove_master(masters, seqno);
+    let data = cache.data;
+    let old = data.range;
+    let range = move_range_start(seqno, old);
+    hand_out(cache, answer, master, left, range, extraction)
+}
+
+// If M is applied, the start moves by it.
+fn move_applied_start(range: AppliedRange, master: MasterBlock) -> AppliedRange
+    ensures { λ r. ⌜ r ≡ move-applied-start range master ⌝ }
+{
+    if is_applied(master.entry) {
+        return move_range_start(master.entry.block_id.seqno, range);
+    }
+    range
+}
+
+// Sync extraction: the master at a seqno leaves; if it is applied the start moves; the mark's rule is used.
+fn sync_plain(cache: Cache, seqno: u32) -> PlainExtract
+    requires { ⌜ sound-cache cache ≡ true ⌝ }
+    ensures { λ r. ⌜ r ≡ sync-plain (at-seqno seqno (view cache .masters .entries)) (view cache) ⌝ }
+{
+    let masters = cache.masters;
+    let there = master_at(masters, seqno);
+    let found = there.found;
+    let Found::At(at) = found else {
+        let answer = ExtractAnswer::AlreadyExtracted;
+        return no_extract(answer, cache);
+    };
+    let master = there.block;
+    let answer = ExtractAnswer::Extracted;
+    let extraction = extract(cache, master);
+    let removed = remove_master(masters, master.entry.block_id.seqno);
+    let left = refresh_masters(removed, master.entry.block_id.seqno);
+    let data = cache.data;
+    let old = data.range;
+    let range = move_applied_start(old, master);
+    hand_out(cache, answer, master, left, range, extraction)
+}
+
+fn request_seqno(request: ExtractRequest) -> u32
+    ensures { λ r. ⌜ r ≡ request-seqno request ⌝ }
+{
+    match request {
+        ExtractRequest::Pop(from) => from,
+        ExtractRequest::Sync(seqno) => seqno,
+    }
+}
+
+// Questions 1, 2 and 10, then the request.
+pub(crate) fn extract_plain(cache: Cache, request: ExtractRequest, places: usize) -> PlainExtract
+    ensures { λ r. ⌜ r ≡ plain-extract cache request places ⌝ }
+{
+    if !sound_cache(cache) {
+        let answer = ExtractAnswer::Refused(1);
+        return no_extract(answer, cache);
+    }
+    let seqno = request_seqno(request);
+    if !seqno_fits(seqno) {
+        let answer = ExtractAnswer::Refused(2);
+        return no_extract(answer, cache);
+    }
+    if places < 128 {
+        let answer = ExtractAnswer::Refused(10);
+        return no_extract(answer, cache);
+    }
+    match request {
+        ExtractRequest::Pop(from) => pop_plain(cache, from),
+        ExtractRequest::Sync(seqno) => sync_plain(cache, seqno),
     }
 }

@@ -7,15 +7,15 @@ ghost use Rattle.blocks_cache.specs.Subgraphs.{extract-on, extract-outco
 ghost use Rattle.blocks_cache.specs.CacheLayout.{call-on};
 ghost use Rattle.blocks_cache.specs.Calls.{pop, sync};
 use crate::cache::Cache;
-use crate::subgraph::ExtractRequest;
-use crate::subgraph::PlainExtract;
-use crate::subgraph::SubgraphExtract;
-use crate::subgraph::extract_plain;
+use crate::extraction::ExtractRequest;
+use crate::extraction::PlainExtract;
+use crate::extraction::SubgraphExtract;
+use crate::extraction::extract_plain;
 use block_records::block_id::BlockId;
 use block_records::entry::BlockCacheEntry;
 
 // The first n blocks go into the slice from a place on; what stands before and after them stays.
-pub(crate) fn fill(out: &mut [BlockCacheEntry], at: usize, blocks: [BlockCacheEntry; 128], n: usize)
+fn fill(out: &mut [BlockCacheEntry], at: usize, blocks: [BlockCacheEntry; 128], n: usize)
     requires { ⌜ (at + n ≤ length (now out)) × (n ≤ 128) ⌝ }
     ensures { λ _. ⌜ now (out .exit) ≡ filled-at at n blocks (now (out .entry)) ⌝ }
 {

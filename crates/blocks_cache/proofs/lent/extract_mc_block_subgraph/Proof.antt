@@ -48,9 +48,9 @@ use denote.Triple.Clauses.{ensured, lasts}
 use denote.Exit.{yes}
 use Rattle.block_records.specs.declared.entry.BlockCacheEntry.{BlockCacheEntry}
 use Rattle.blocks_cache.specs.declared.cache.Cache.{Cache}
-use Rattle.blocks_cache.specs.declared.subgraph.ExtractRequest.{ExtractRequest}
-use Rattle.blocks_cache.specs.declared.subgraph.PlainExtract.{PlainExtract}
-use Rattle.blocks_cache.specs.declared.subgraph.SubgraphExtract.{SubgraphExtract}
+use Rattle.blocks_cache.specs.declared.extraction.ExtractRequest.{ExtractRequest}
+use Rattle.blocks_cache.specs.declared.extraction.PlainExtract.{PlainExtract}
+use Rattle.blocks_cache.specs.declared.extraction.SubgraphExtract.{SubgraphExtract}
 use Rattle.blocks_cache.specs.LentSlices.{filled-at}
 use Rattle.blocks_cache.specs.Subgraphs.{extract-on, extract-outcome, plain-extract, zeroed-extract}
 use Rattle.blocks_cache.proofs.SubgraphLaws.{PlainExtracts, plain-extracts}
@@ -59,16 +59,16 @@ use Rattle.block_records.proofs.entry.BlockCacheEntry as E
 use Rattle.block_records.proofs.entry.BlockCacheEntry.Laws as E′
 use Rattle.blocks_cache.proofs.cache.Cache as K
 use Rattle.blocks_cache.proofs.cache.Cache.Laws as K′
-use Rattle.blocks_cache.proofs.subgraph.ExtractRequest as Q
-use Rattle.blocks_cache.proofs.subgraph.ExtractRequest.Laws as Q′
-use Rattle.blocks_cache.proofs.subgraph.PlainExtract as P
-use Rattle.blocks_cache.proofs.subgraph.PlainExtract.Laws as P′
-use Rattle.blocks_cache.proofs.subgraph.SubgraphExtract as X
-use Rattle.blocks_cache.proofs.subgraph.SubgraphExtract.Laws as X′
-use Rattle.blocks_cache.proofs.subgraph.extract_plain as extract-plain
-use Rattle.blocks_cache.proofs.subgraph.extract_plain.Symbol as extract-plain-def
-use Rattle.blocks_cache.proofs.subgraph.extract_plain.Symbol.{name as #extract-plain}
-use Rattle.blocks_cache.proofs.subgraph.extract_plain.Met as extract-plain-thm
+use Rattle.blocks_cache.proofs.extraction.ExtractRequest as Q
+use Rattle.blocks_cache.proofs.extraction.ExtractRequest.Laws as Q′
+use Rattle.blocks_cache.proofs.extraction.PlainExtract as P
+use Rattle.blocks_cache.proofs.extraction.PlainExtract.Laws as P′
+use Rattle.blocks_cache.proofs.extraction.SubgraphExtract as X
+use Rattle.blocks_cache.proofs.extraction.SubgraphExtract.Laws as X′
+use Rattle.blocks_cache.proofs.extraction.extract_plain as extract-plain
+use Rattle.blocks_cache.proofs.extraction.extract_plain.Symbol as extract-plain-def
+use Rattle.blocks_cache.proofs.extraction.extract_plain.Symbol.{name as #extract-plain}
+use Rattle.blocks_cache.proofs.extraction.extract_plain.Met as extract-plain-thm
 use Rattle.blocks_cache.proofs.lent.fill as fill
 use Rattle.blocks_cache.proofs.lent.fill.Symbol as fill-def
 use Rattle.blocks_cache.proofs.lent.fill.Symbol.{name as #fill}
@@ -326,5 +326,5 @@ extract-mc-block-subgraph-spec 𝓤 H 𝓜 𝓖 𝓡 =
     entered 𝓤 H (tripleOf 𝓤 H (𝓖 .A) extract.signature (extract.spec 𝓤 H (𝓖 .A) (𝓜 .mem) (𝓡 .run)))
     (tables 𝓤 H 𝓜 𝓡 code.env .C) (tables 𝓤 H 𝓜 𝓡 code.env .Λ) #extract code.function (code.unfolded 𝓤 H 𝓜 𝓡)
     (extract-meets 𝓤 H (𝓖 .A) (givenOf 𝓤 H 𝓜 𝓖) (𝓜 .mem) (𝓡 .run) (tablesOf 𝓤 H 𝓜 (tables 𝓤 H 𝓜 𝓡 code.env))
-    (cited 𝓤 H (ExtractPlain 𝓤 H (𝓖 .A) (𝓜 .mem) (𝓡 .run)) 𝓜 𝓡 code.env #extract-plain extract-plain-def.routine code.calls-blocks-cache·subgraph·extract-plain (extract-plain-thm.met 𝓤 H 𝓜 𝓖 𝓡))
+    (cited 𝓤 H (ExtractPlain 𝓤 H (𝓖 .A) (𝓜 .mem) (𝓡 .run)) 𝓜 𝓡 code.env #extract-plain extract-plain-def.routine code.calls-blocks-cache·extraction·extract-plain (extract-plain-thm.met 𝓤 H 𝓜 𝓖 𝓡))
     (cited 𝓤 H (Fill 𝓤 H (𝓖 .A) (𝓜 .mem) (𝓡 .run)) 𝓜 𝓡 code.env #fill fill-def.routine code.calls-blocks-cache·lent·fill (fill-thm.met 𝓤 H 𝓜 𝓖 𝓡)))

@@ -37,17 +37,17 @@ use denote.Triple.Walked.{says, Stays, stay-dropped, gave-slice, walkOf, AllGo, 
 use denote.Exit.{yes}
 use Rattle.block_records.specs.declared.entry.BlockCacheEntry.{BlockCacheEntry}
 use Rattle.blocks_cache.specs.declared.cache.Cache.{Cache}
-use Rattle.blocks_cache.specs.declared.subgraph.ExtractRequest.{ExtractRequest}
-use Rattle.blocks_cache.specs.declared.subgraph.ExtractRequest.the-variants.{Pop as pop-request}
-use Rattle.blocks_cache.specs.declared.subgraph.SubgraphExtract.{SubgraphExtract}
+use Rattle.blocks_cache.specs.declared.extraction.ExtractRequest.{ExtractRequest}
+use Rattle.blocks_cache.specs.declared.extraction.ExtractRequest.the-variants.{Pop as pop-request}
+use Rattle.blocks_cache.specs.declared.extraction.SubgraphExtract.{SubgraphExtract}
 use Rattle.block_records.proofs.entry.BlockCacheEntry as E
 use Rattle.block_records.proofs.entry.BlockCacheEntry.Laws as E′
 use Rattle.blocks_cache.proofs.cache.Cache as K
 use Rattle.blocks_cache.proofs.cache.Cache.Laws as K′
-use Rattle.blocks_cache.proofs.subgraph.ExtractRequest as Q
-use Rattle.blocks_cache.proofs.subgraph.ExtractRequest.Laws as Q′
-use Rattle.blocks_cache.proofs.subgraph.SubgraphExtract as X
-use Rattle.blocks_cache.proofs.subgraph.SubgraphExtract.Laws as X′
+use Rattle.blocks_cache.proofs.extraction.ExtractRequest as Q
+use Rattle.blocks_cache.proofs.extraction.ExtractRequest.Laws as Q′
+use Rattle.blocks_cache.proofs.extraction.SubgraphExtract as X
+use Rattle.blocks_cache.proofs.extraction.SubgraphExtract.Laws as X′
 use Rattle.blocks_cache.proofs.ExtractCallWalk.{Extract, Good, Said, cache-val, calls-extract, had, lent, middle, request-val}
 use Rattle.blocks_cache.proofs.lent.extract_mc_block_subgraph.Symbol as extract-def
 use Rattle.blocks_cache.proofs.lent.extract_mc_block_subgraph.Symbol.{name as #extract}

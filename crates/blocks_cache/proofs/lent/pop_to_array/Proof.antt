@@ -40,8 +40,8 @@ use denote.Triple.Clauses.{ensured, lasts}
 use denote.Exit.{yes}
 use Rattle.block_records.specs.declared.entry.BlockCacheEntry.{BlockCacheEntry}
 use Rattle.blocks_cache.specs.declared.cache.Cache.{Cache}
-use Rattle.blocks_cache.specs.declared.subgraph.PlainExtract.{PlainExtract}
-use Rattle.blocks_cache.specs.declared.subgraph.SubgraphExtract.{SubgraphExtract}
+use Rattle.blocks_cache.specs.declared.extraction.PlainExtract.{PlainExtract}
+use Rattle.blocks_cache.specs.declared.extraction.SubgraphExtract.{SubgraphExtract}
 use Rattle.blocks_cache.specs.CacheLayout.{call-on}
 use Rattle.blocks_cache.specs.Calls.{pop}
 use Rattle.blocks_cache.specs.Subgraphs.{extract-outcome, zeroed-extract}
@@ -49,10 +49,10 @@ use Rattle.block_records.proofs.entry.BlockCacheEntry as E
 use Rattle.block_records.proofs.entry.BlockCacheEntry.Laws as E′
 use Rattle.blocks_cache.proofs.cache.Cache as K
 use Rattle.blocks_cache.proofs.cache.Cache.Laws as K′
-use Rattle.blocks_cache.proofs.subgraph.PlainExtract as R
-use Rattle.blocks_cache.proofs.subgraph.PlainExtract.Laws as R′
-use Rattle.blocks_cache.proofs.subgraph.SubgraphExtract as X
-use Rattle.blocks_cache.proofs.subgraph.SubgraphExtract.Laws as X′
+use Rattle.blocks_cache.proofs.extraction.PlainExtract as R
+use Rattle.blocks_cache.proofs.extraction.PlainExtract.Laws as R′
+use Rattle.blocks_cache.proofs.extraction.SubgraphExtract as X
+use Rattle.blocks_cache.proofs.extraction.SubgraphExtract.Laws as X′
 use Rattle.blocks_cache.proofs.ArrayFieldWalk.{array-as-field, array-val-tells}
 use Rattle.blocks_cache.proofs.LentArrayWalk.{Good, Lent, N, Told, blocks-val, extract-val, lends, lent-ref, middle}
 use Rattle.blocks_cache.proofs.lent.pop_front_applied_mc_block_subgraph as callee

@@ -6,8 +6,8 @@ use borrow.Author.Needs.{needs}
 use Rattle.block_records.proofs.LoopLaws.{padded-nil}
 use Rattle.block_records.specs.declared.entry.BlockCacheEntry.{BlockCacheEntry}
 use Rattle.block_records.specs.Zeros.{zero-entry}
-use Rattle.blocks_cache.proofs.subgraph.no_extract.Statement.{statement}
-use Rattle.blocks_cache.proofs.subgraph.no_extract.Tie as tie
+use Rattle.blocks_cache.proofs.extraction.no_extract.Statement.{statement}
+use Rattle.blocks_cache.proofs.extraction.no_extract.Tie as tie
 
 zero-master-requires : tie.Need-zero-master-requires
 zero-master-requires c κs = search needs

@@ -4,11 +4,11 @@ use mathlib.Core.Path.{_≡_, sym, ap, _∙_}
 use borrow.Author.Needs.{needs}
 use borrow.Author.Tests.{not-true, not-false}
 use Rattle.block_records.specs.Questions.{seqno-fits}
-use Rattle.blocks_cache.specs.declared.subgraph.ExtractRequest.{ExtractRequest}
+use Rattle.blocks_cache.specs.declared.extraction.ExtractRequest.{ExtractRequest}
 use Rattle.blocks_cache.specs.Subgraphs.{plain-extract, request-seqno}
 use Rattle.blocks_cache.proofs.SubgraphLaws.{plain-pops, plain-short, plain-syncs, plain-unfit, plain-unsound}
-use Rattle.blocks_cache.proofs.subgraph.extract_plain.Statement.{statement}
-use Rattle.blocks_cache.proofs.subgraph.extract_plain.Tie as tie
+use Rattle.blocks_cache.proofs.extraction.extract_plain.Statement.{statement}
+use Rattle.blocks_cache.proofs.extraction.extract_plain.Tie as tie
 
 sound-cache-requires : tie.Need-sound-cache-requires
 sound-cache-requires c κs = search needs

@@ -1,8 +1,8 @@
 -- The records as they are given.
 -- Assumes nothing.
 use borrow.Author.Needs.{needs}
-use Rattle.blocks_cache.proofs.subgraph.hand_out.Statement.{statement}
-use Rattle.blocks_cache.proofs.subgraph.hand_out.Tie as tie
+use Rattle.blocks_cache.proofs.extraction.hand_out.Statement.{statement}
+use Rattle.blocks_cache.proofs.extraction.hand_out.Tie as tie
 
 drop-ids-below-requires : tie.Need-drop-ids-below-requires
 drop-ids-below-requires c κs = search needs

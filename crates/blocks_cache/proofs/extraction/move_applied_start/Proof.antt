@@ -2,8 +2,8 @@
 -- Assumes nothing.
 use mathlib.Core.Path.{sym, _∙_}
 use borrow.Author.Needs.{needs}
-use Rattle.blocks_cache.proofs.subgraph.move_applied_start.Statement.{statement}
-use Rattle.blocks_cache.proofs.subgraph.move_applied_start.Tie as tie
+use Rattle.blocks_cache.proofs.extraction.move_applied_start.Statement.{statement}
+use Rattle.blocks_cache.proofs.extraction.move_applied_start.Tie as tie
 
 is-applied-requires : tie.Need-is-applied-requires
 is-applied-requires c κs = search needs

@@ -2,8 +2,8 @@
 -- Assumes nothing.
 use borrow.Author.Needs.{needs}
 use Rattle.blocks_cache.proofs.SubgraphLaws.{sync-none, sync-some}
-use Rattle.blocks_cache.proofs.subgraph.sync_plain.Statement.{statement}
-use Rattle.blocks_cache.proofs.subgraph.sync_plain.Tie as tie
+use Rattle.blocks_cache.proofs.extraction.sync_plain.Statement.{statement}
+use Rattle.blocks_cache.proofs.extraction.sync_plain.Tie as tie
 
 master-at-requires : tie.Need-master-at-requires
 master-at-requires c κs = search needs

@@ -2,8 +2,8 @@
 -- Assumes nothing.
 use borrow.Author.Needs.{needs}
 use Rattle.blocks_cache.proofs.SubgraphLaws.{pop-none, pop-some}
-use Rattle.blocks_cache.proofs.subgraph.pop_plain.Statement.{statement}
-use Rattle.blocks_cache.proofs.subgraph.pop_plain.Tie as tie
+use Rattle.blocks_cache.proofs.extraction.pop_plain.Statement.{statement}
+use Rattle.blocks_cache.proofs.extraction.pop_plain.Tie as tie
 
 first-applied-master-requires : tie.Need-first-applied-master-requires
 first-applied-master-requires c κs = search needs
