@@ -47,9 +47,9 @@ fn given_mark(seqno: u32, mark: Mark) -> Mark
 {
     match mark {
         Mark::Absent => Mark::Absent,
-        Mark::At(known) => {
-            if seqno <= known {
-                Mark::At(known)
+        Mark::At(held) => {
+            if seqno <= held {
+                Mark::At(held)
             } else {
                 Mark::Absent
             }
