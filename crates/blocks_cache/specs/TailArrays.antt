@@ -1,0 +1,138 @@
+-- Document 01, Tail ids: the rows as they are held, and what the code does to them and to the ids that wait, for every input, sound or not.
+-- On packed rows and a packed cache this is the rule, packed (proofs/TailArrayLaws, TailWalkLaws).
+-- Assumes nothing.
+use mathlib.Core.Bool.{Bool, _&&_, _||_, false, not, true}
+use mathlib.Core.List.{List, [], _∷_}
+use mathlib.Core.Option.{Option, none, some}
+use Prim.Native.Nat.{_+_, ℕ}
+use lib.Dec.{eqb, leb, ltb}
+use lib.ListN.{getD, length, take}
+use Rattle.block_records.specs.declared.block_id.BlockId.{BlockId}
+use Rattle.block_records.specs.declared.block_id.ShardIdent.{ShardIdent}
+use Rattle.block_records.specs.declared.entry.BlockCacheEntry.{BlockCacheEntry}
+use Rattle.block_records.specs.declared.store_records.PrevIds.{PrevIds}
+use Rattle.blocks_cache.specs.declared.cache.Cache.{Cache}
+use Rattle.blocks_cache.specs.declared.master_data.LastId.{LastId}
+use Rattle.blocks_cache.specs.declared.place.Place.{Place}
+use Rattle.blocks_cache.specs.declared.place.Place.the-variants.{At as place-at, Vacant as place-vacant}
+use Rattle.blocks_cache.specs.declared.tail_ids.TailIdsRow.{TailIdsRow}
+use Rattle.blocks_cache.specs.declared.tail_ids.TailRows.{TailRows}
+use Rattle.blocks_cache.specs.declared.tail_ids.TailStep.{TailStep}
+use Rattle.blocks_group.specs.declared.group.EntryAt.{EntryAt}
+use Rattle.blocks_group.specs.declared.search.Found.{Found}
+use Rattle.blocks_group.specs.declared.search.Found.the-variants.{At as found-at, Vacant as vacant-at}
+use Rattle.block_records.specs.BlockIds.{id-shard, key, less-id, less-shard, listed-prev-ids, same-shard}
+use Rattle.block_records.specs.EntryLayout.{pack-prev-ids}
+use Rattle.block_records.specs.Lists.{each, padded, pick, put}
+use Rattle.block_records.specs.Zeros.{zero-prev-ids, zero-shard}
+use Rattle.blocks_cache.specs.Calls.{TailRow}
+use Rattle.blocks_cache.specs.Lookups.{entry-under}
+use Rattle.blocks_cache.specs.MasterDataArrays.{pack-last}
+use Rattle.blocks_cache.specs.Places.{place}
+use Rattle.blocks_cache.specs.TailIdsOnce.{unknown-ids}
+
+-- ===== the rows =====
+
+-- an id or absent
+abbrev pub view-last : LastId → Option BlockId
+view-last l = pick (l .present) (some (l .id)) none
+
+abbrev pub pack-tail : TailRow → TailIdsRow
+pack-tail t = record { shard = t .shard; id = pack-last (t .id); «prev_ids» = pack-prev-ids (t .previous) }
+
+abbrev pub view-tail : TailIdsRow → TailRow
+view-tail r = record { shard = r .shard; id = view-last (r .id); previous = listed-prev-ids (r .«prev_ids») }
+
+unfoldable pub zero-tail : TailIdsRow
+zero-tail = record { shard = zero-shard; id = pack-last none; «prev_ids» = zero-prev-ids }
+
+-- these rows, and zeros after them
+abbrev pub with-rows : List TailIdsRow → TailRows
+with-rows rs = record { rows = padded 17 zero-tail rs; count = length rs }
+
+abbrev pub pack-tails : List TailRow → TailRows
+pack-tails ts = with-rows (each pack-tail ts)
+
+-- the rows below the count; a count past the 17 places lists them all
+abbrev pub listed-rows : TailRows → List TailIdsRow
+listed-rows t = take (t .count) (t .rows)
+
+-- how many that are
+abbrev pub listed-row-count : ℕ → ℕ
+listed-row-count n = pick (ltb n 17) n 17
+
+abbrev pub view-tails : TailRows → List TailRow
+view-tails t = each view-tail (listed-rows t)
+
+-- ===== a row held =====
+
+abbrev pub row-before : TailIdsRow → TailIdsRow → Bool
+row-before a b = less-shard (a .shard) (b .shard)
+
+abbrev pub row-below : ShardIdent → TailIdsRow → Bool
+row-below s r = less-shard (r .shard) s
+
+abbrev pub row-at : ShardIdent → TailIdsRow → Bool
+row-at s r = same-shard (r .shard) s
+
+-- where a shard's row stands, or the place where it would go in
+abbrev pub row-place : ShardIdent → TailRows → Place
+row-place s t = place (row-below s) (row-at s) (listed-rows t)
+
+-- absent being least
+abbrev pub less-last : LastId → LastId → Bool
+less-last a b = b .present && (not (a .present) || less-id (a .id) (b .id))
+
+-- the row put in by shard; one of the same shard is replaced; nothing changes where they would be more than 17
+abbrev pub put-row : TailIdsRow → TailRows → TailRows
+put-row r t = pick (leb (length (put row-before r (listed-rows t))) 17) (with-rows (put row-before r (listed-rows t))) t
+
+-- Per shard the pair held is replaced if its id is absent, or if the new id is less.
+abbrev pub replaces-row : TailIdsRow → TailIdsRow → Bool
+replaces-row r h = not (h .id .present) || less-last (r .id) (h .id)
+
+abbrev pub held-at : TailIdsRow → Place → TailRows → TailRows
+held-at r (place-at k) t = pick (replaces-row r (getD (t .rows) k zero-tail)) (put-row r t) t
+held-at r (place-vacant k) t = put-row r t
+
+unfoldable pub hold-row : TailIdsRow → TailRows → TailRows
+hold-row r t = held-at r (row-place (r .shard) t) t
+
+-- ===== what an id gives and queues =====
+
+-- (asked id, its previous ids)
+abbrev pub cached-row : BlockId → PrevIds → TailIdsRow
+cached-row i ps = record { shard = id-shard i; id = pack-last (some i); «prev_ids» = ps }
+
+-- (absent, itself)
+abbrev pub missing-row : BlockId → TailIdsRow
+missing-row i = record { shard = id-shard i; id = pack-last none; «prev_ids» = pack-prev-ids (i ∷ []) }
+
+abbrev pub no-step : TailStep
+no-step = record { given = false; row = zero-tail; queued = zero-prev-ids }
+
+-- A cached block gives (asked id, its previous ids) if taken as a top or naming M, and queues them. A missing top gives (absent, itself).
+abbrev pub found-step : ℕ → Bool → BlockId → Found → BlockCacheEntry → TailStep
+found-step m as-top i (found-at k) e =
+    pick (as-top || eqb (e .«ref_by_mc_seqno») m) (record { given = true; row = cached-row i (e .«prev_ids»); queued = e .«prev_ids» }) no-step
+found-step m as-top i (vacant-at k) e = pick as-top (record { given = true; row = missing-row i; queued = zero-prev-ids }) no-step
+
+-- seqno 0 is skipped
+abbrev pub tail-step : ℕ → Bool → BlockId → EntryAt → TailStep
+tail-step m as-top i a = pick (eqb (i .seqno) 0) no-step (found-step m as-top i (a .found) (a .entry))
+
+-- in a cache
+unfoldable pub step-of : Cache → ℕ → Bool → BlockId → TailStep
+step-of c m as-top i = tail-step m as-top i (entry-under (key i) c)
+
+abbrev pub hold-given : TailStep → TailRows → TailRows
+hold-given s t = pick (s .given) (hold-row (s .row) t) t
+
+-- ===== the ids that wait =====
+
+abbrev pub two-ids : BlockId → Bool → BlockId → Bool → List BlockId
+two-ids a takes-a b takes-b = pick takes-a (a ∷ pick takes-b (b ∷ []) []) (pick takes-b (b ∷ []) [])
+
+-- those that are not known yet, each once; none where 256 places would not hold them
+unfoldable pub fresh-ids : List BlockId → List BlockId → List BlockId
+fresh-ids known ps = pick (leb (length known + length (unknown-ids known ps)) 256) (unknown-ids known ps) []
