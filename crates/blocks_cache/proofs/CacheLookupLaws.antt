@@ -91,10 +91,11 @@ module _ (k : BlockIdShort) (m : Model) (ok : sound m ≡ true) where
 
 -- ===== the steps of the code =====
 
-module _ (k : BlockIdShort) (c : Cache) (long : length (c .shards) ≡ 8) (s : ShardIdent) (of-key : s ≡ key-shard k) (i : ℕ) where
-  pub under-place : shard-place s (c .«shard_count») (c .shards) ≡ place-at i → i < 8
-  under-place e = shard-listed (c .shards) long (c .«shard_count») (record { shard = s; group = zero-group }) i e
+-- the place of a listed group
+pub shard-place-listed : (s : ShardIdent) (c : Cache) → length (c .shards) ≡ 8 → (k : ℕ) → shard-place s (c .«shard_count») (c .shards) ≡ place-at k → k < 8
+shard-place-listed s c long k e = shard-listed (c .shards) long (c .«shard_count») (record { shard = s; group = zero-group }) k e
 
+module _ (k : BlockIdShort) (c : Cache) (long : length (c .shards) ≡ 8) (s : ShardIdent) (of-key : s ≡ key-shard k) (i : ℕ) where
   pub under-unknown : shard-place s (c .«shard_count») (c .shards) ≡ place-vacant i → (z : BlockCacheEntry) → z ≡ zero-entry → record { found = vacant-at 0; entry = z } ≡ entry-under k c
   unfolding entry-under
   under-unknown e z q =
@@ -105,6 +106,6 @@ module _ (k : BlockIdShort) (c : Cache) (long : length (c .shards) ≡ 8) (s : S
   pub under-known : shard-place s (c .«shard_count») (c .shards) ≡ place-at i → (d : ShardGroup) (a : EntryAt) → a ≡ entry-at (k .seqno) (getD (c .shards) i d .group) → a ≡ entry-under k c
   unfolding entry-under
   under-known e d a q =
-      let l = under-place e in
+      let l = shard-place-listed s c long i e in
       q ∙ ap (λ (x : ShardGroup). entry-at (k .seqno) (x .group)) (getD-any (c .shards) i d zero-shard-group (omega (arith, long)))
       ∙ ap (λ (p : Place). entry-in (k .seqno) p (c .shards)) (sym e) ∙ ap (λ (x : ShardIdent). entry-in (k .seqno) (shard-place x (c .«shard_count») (c .shards)) (c .shards)) of-key

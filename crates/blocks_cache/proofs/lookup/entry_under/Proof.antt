@@ -1,52 +1,52 @@
+-- The group at the place that is found, and the entry there.
+-- Assumes nothing.
+use mathlib.Core.Path.{_∙_, _≡_, ap, refl, sym}
+use native.Mathlib.Omega.{arith}
+use lib.ListN.{length}
+use Rattle.block_records.proofs.LoopLaws.{length-mapped}
+use Rattle.blocks_cache.proofs.CacheLookupLaws.{shard-place-listed, under-known, under-unknown}
 use borrow.Author.Needs.{needs}
 use Rattle.blocks_cache.proofs.lookup.entry_under.Statement.{statement}
 use Rattle.blocks_cache.proofs.lookup.entry_under.Tie as tie
-use Rattle.blocks_cache.proofs.lookup.entry_under.Reads as reads
-use Rattle.blocks_cache.proofs.lookup.entry_under.Lts as lts
-use Rattle.block_records.proofs.block_id.key_shard.Reads as key-shard-reads
-use Rattle.block_records.proofs.entry.zero_entry.Reads as zero-entry-reads
-use Rattle.blocks_cache.proofs.shards.find_shard.Reads as find-shard-reads
-use Rattle.blocks_group.proofs.group.entry_at.Reads as entry-at-reads
 
--- src/lookup.rt:19:9
+long : (c : tie.Start) → length (c .args .cache .shards) ≡ 8
+long c = search (needs, length-mapped)
+
 key-shard-requires : tie.Need-key-shard-requires
 key-shard-requires c κs = search needs
 
--- src/lookup.rt:20:9
 find-shard-requires : tie.Need-find-shard-requires
 find-shard-requires c κs = search needs
 
--- src/lookup.rt:21:19
 enum-known-place : tie.Need-enum-known-place
 enum-known-place c = search needs
 
--- src/lookup.rt:22:13
 enum-told : tie.Need-enum-told
 enum-told c = search needs
 
--- src/lookup.rt:22:13
 zero-entry-requires : tie.Need-zero-entry-requires
 zero-entry-requires c κs = search needs
 
--- src/lookup.rt:23:9
 returns : tie.Need-returns
-returns c = ?
+returns c = let s = c .before .before .before .before .before .before in under-unknown (s .args .short) (s .args .cache) (long s) _ (c .before .before .before .before .key-shard .ensures) _ (sym (c .before .before .before .find-shard .ensures) ∙ c .before .enum-told .given .1) _ (c .zero-entry .ensures)
 
--- src/lookup.rt:28:17
 mul-known : tie.Need-mul-known
-mul-known c = ?
+mul-known c =
+    let s = c .before .before .before .before .before .before in
+    let l = shard-place-listed (c .before .before .before .before .key-shard .result) (s .args .cache) (long s) _ (sym (c .before .before .before .find-shard .ensures) ∙ c .before .place .given .1) in
+    omega arith
 
--- src/lookup.rt:28:17
 array-copy-out-known : tie.Need-array-copy-out-known
-array-copy-out-known c = ?
+array-copy-out-known c =
+    let s = c .before .before .before .before .before .before in
+    let l = shard-place-listed (c .before .before .before .before .key-shard .result) (s .args .cache) (long s) _ (sym (c .before .before .before .find-shard .ensures) ∙ c .before .place .given .1) in
+    l
 
--- src/lookup.rt:29:5
 entry-at-requires : tie.Need-entry-at-requires
 entry-at-requires c κs = search needs
 
--- src/lookup.rt:15:1
 returns-2 : tie.Need-returns-2
-returns-2 c = ?
+returns-2 c = let s = c .before .before .before .before .before .before .before .before in under-known (s .args .short) (s .args .cache) (long s) _ (c .before .before .before .before .before .before .key-shard .ensures) _ (sym (c .before .before .before .before .before .find-shard .ensures) ∙ c .before .before .before .place .given .1) _ _ (c .entry-at .ensures)
 
 pub entry-under-spec : {M : Type 1} → statement M
 entry-under-spec =

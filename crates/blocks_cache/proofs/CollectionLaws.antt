@@ -1,0 +1,413 @@
+-- Set boundary, collect and remove next collated on a cache as it is held are the rules, packed; and each is the call.
+-- Assumes nothing.
+use mathlib.Core.Bool.{Bool, false, not, true}
+use mathlib.Core.List.{List, [], _++_, _∷_, append-assoc}
+use mathlib.Core.Option.{Option, none, some}
+use mathlib.Core.Path.{_∙_, _≡_, ap, ap₂, refl, subst, sym}
+use Prim.Native.Nat.{_+_, _-_, _<_, _≤_, suc, zero, ℕ}
+use native.Mathlib.Nat.{le-of-suc-le-suc, not-suc-le-zero}
+use native.Mathlib.Numerals.{add-one}
+use native.Mathlib.Omega.{arith}
+use lib.Dec.{leb, ltb}
+use lib.ListN.{getD, length, length-append, replicate, set}
+use lib.Seq.{getD-at, set-at}
+use Rattle.block_records.specs.declared.block_id.BlockId.{BlockId}
+use Rattle.block_records.specs.declared.block_id.BlockIdShort.{BlockIdShort}
+use Rattle.block_records.specs.declared.block_id.ShardIdent.{ShardIdent}
+use Rattle.block_records.specs.declared.questions.Refusal.{Refusal}
+use Rattle.block_records.specs.declared.questions.Refusal.the-variants.{Absent as no-refusal, Number as refusal-number}
+use Rattle.block_records.specs.declared.store_records.Keys.{Keys}
+use Rattle.blocks_cache.specs.declared.cache.Cache.{Cache}
+use Rattle.blocks_cache.specs.declared.cache.ShardGroup.{ShardGroup}
+use Rattle.blocks_cache.specs.declared.collection.ChangeAnswer.{ChangeAnswer}
+use Rattle.blocks_cache.specs.declared.collection.ChangeAnswer.the-variants.{Done as change-done, Refused as change-refused}
+use Rattle.blocks_cache.specs.declared.master_data.MasterData.{MasterData}
+use Rattle.blocks_cache.specs.declared.place.Place.{Place}
+use Rattle.blocks_cache.specs.declared.place.Place.the-variants.{At as place-at, Vacant as place-vacant}
+use Rattle.blocks_group.specs.declared.group.Group.{Group}
+use Rattle.blocks_group.specs.declared.group.MasterGroup.{MasterGroup}
+use Rattle.blocks_group.specs.declared.queries.SeqnoOption.{SeqnoOption}
+use Rattle.block_records.proofs.ArrayLaws.{getD-any}
+use Rattle.block_records.proofs.BlockIdLaws.{shard-order}
+use Rattle.block_records.proofs.ListLaws.{all-weaken, length-each, rising-each}
+use Rattle.block_records.proofs.LoopLaws.{left, left-more, left-over, left-passed}
+use Rattle.block_records.proofs.OrderLaws.{differs, less-not-same}
+use Rattle.block_records.proofs.Tests.{and-left, and-right, clash, not-true, on}
+use Rattle.block_records.specs.BlockIds.{is-masterchain, key-shard, less-shard, listed-keys, same-shard}
+use Rattle.block_records.specs.Lists.{all, each, filter, fold, padded, pick, rising}
+use Rattle.block_records.specs.Questions.{Question, ask, first-no, keys-questions, pack-refusal}
+use Rattle.blocks_cache.proofs.CacheLookupLaws.{shard-place-listed}
+use Rattle.blocks_cache.proofs.CallLaws.{no-leaves}
+use Rattle.blocks_cache.proofs.CallOnLaws.{on-sound}
+use Rattle.blocks_cache.proofs.MasterDataLaws.{drop-ids-below-packed, drop-ids-from-packed}
+use Rattle.blocks_cache.proofs.ShardArrayLaws.{shard-place-packed}
+use Rattle.blocks_cache.proofs.SoundLaws.{parts}
+use Rattle.blocks_cache.proofs.SoundSteps.{all-yes}
+use Rattle.blocks_cache.specs.CacheLayout.{answered-on, call-on, pack, pack-outcome, pack-shard, questions-on, sound-cache, view, zero-shard-group}
+use Rattle.blocks_cache.specs.CacheParts.{with-master-data, with-master-group, with-shard-groups}
+use Rattle.blocks_cache.specs.Calls.{Effect, Request, collect, done, remove-next-collated, set-boundary, unlent}
+use Rattle.blocks_cache.specs.Collections.{bound-held, change-outcome, changed-first, collect-held, collect-shard-group, done-with, drop-collected, drop-removed, keys-answer, on-place, on-shard-group, pack-change, remove-held, remove-held-masters, with-group-at}
+use Rattle.blocks_cache.specs.Edges.{answers, same}
+use Rattle.blocks_cache.specs.Effects.{after, answered, bound-one, collect-shard, do-collect, effect, outcome-of, plain, remove-ids, remove-one}
+use Rattle.blocks_cache.specs.Model.{Model, ShardModel, is-shard, on-shard, shard-before, with-data, with-shards}
+use Rattle.blocks_cache.specs.Places.{place, place-from}
+use Rattle.blocks_cache.specs.Refusals.{further, sound}
+use Rattle.blocks_cache.specs.ShardArrays.{shard-place}
+use Rattle.blocks_group.proofs.GroupLaws.{entry-seqno}
+use Rattle.blocks_group.proofs.QueryLaws.{below-go, collect-group-packed, collect-masters-packed, from-go, highest-below-boundary-packed, kept-by, lowest-collated-above-packed, remove-collated-above-packed, remove-collated-masters-above-packed}
+use Rattle.blocks_group.specs.GroupArrays.{set-group-boundary, set-master-boundary}
+use Rattle.blocks_group.specs.GroupLayout.{pack-group}
+use Rattle.blocks_group.specs.GroupQueries.{collect-group, collect-masters, highest-below-boundary, highest-seqno, lowest-collated-above, lowest-seqno, pack-seqno, remove-collated-above, remove-collated-masters-above}
+use Rattle.blocks_group.specs.GroupRules.{GroupModel, below-boundary, collated-above, with-boundary, without-collated-above}
+
+-- ===== a change of the group of one shard =====
+
+module _ (s : ShardIdent) (f : Group → Group) (h : GroupModel → GroupModel) (same : (g : GroupModel) → f (pack-group g) ≡ pack-group (h g)) where
+  -- nothing changes where no group is of the shard
+  none-changes : (gs : List ShardModel) → all (λ (g : ShardModel). not (is-shard s g)) gs ≡ true → on-shard s h gs ≡ gs
+  none-changes [] a = refl
+  none-changes (g ∷ gs) a =
+      rw (not-true (is-shard s g) (and-left (not (is-shard s g)) (all (λ (g : ShardModel). not (is-shard s g)) gs) a))
+      (ap (λ (r : List ShardModel). g ∷ r) (none-changes gs (and-right (not (is-shard s g)) (all (λ (g : ShardModel). not (is-shard s g)) gs) a)))
+
+  -- in rising groups none after one that is not below the shard
+  later-unchanged : (g : ShardModel) (gs : List ShardModel) → less-shard (g .shard) s ≡ false → all (shard-before g) gs ≡ true → on-shard s h gs ≡ gs
+  later-unchanged g gs t a =
+      none-changes gs
+      (all-weaken (shard-before g) (λ (y : ShardModel). not (is-shard s y)) gs
+      (λ y l. rw (differs shard-order (y .shard) s (λ e. clash (subst (λ (x : ShardIdent). less-shard (g .shard) x ≡ true) e l) t))) a)
+
+  -- the groups from place i on, those before it in front and zeros after them
+  place-changes : (gs : List ShardModel) (front rest : List ShardGroup) (i : ℕ) → length front ≡ i → rising shard-before gs ≡ true →
+      on-place f (place-from (λ (g : ShardModel). less-shard (g .shard) s) (is-shard s) i gs) (front ++ (each pack-shard gs ++ rest)) ≡ front ++ (each pack-shard (on-shard s h gs) ++ rest)
+  place-changes [] front rest i n r = refl
+  place-changes (g ∷ gs) front rest i n r = let ih = place-changes gs (front ++ (pack-shard g ∷ [])) rest (suc i) in on (less-shard (g .shard) s) (before ih) after
+    where
+      a : all (shard-before g) gs ≡ true
+      a = and-left (all (shard-before g) gs) (rising shard-before gs) r
+
+      before : (length (front ++ (pack-shard g ∷ [])) ≡ suc i → rising shard-before gs ≡ true →
+          on-place f (place-from (λ (g : ShardModel). less-shard (g .shard) s) (is-shard s) (suc i) gs) ((front ++ (pack-shard g ∷ [])) ++ (each pack-shard gs ++ rest))
+          ≡ (front ++ (pack-shard g ∷ [])) ++ (each pack-shard (on-shard s h gs) ++ rest)) → less-shard (g .shard) s ≡ true →
+          on-place f (place-from (λ (g : ShardModel). less-shard (g .shard) s) (is-shard s) i (g ∷ gs)) (front ++ (each pack-shard (g ∷ gs) ++ rest))
+          ≡ front ++ (each pack-shard (on-shard s h (g ∷ gs)) ++ rest)
+      before ih t =
+          let l : length (front ++ (pack-shard g ∷ [])) ≡ suc i = omega (arith, length-append front (pack-shard g ∷ [])) in
+          let e = ih l (and-right (all (shard-before g) gs) (rising shard-before gs) r) in
+          rw (t, less-not-same shard-order (g .shard) s t)
+          (ap (on-place f (place-from (λ (g : ShardModel). less-shard (g .shard) s) (is-shard s) (suc i) gs)) (sym (append-assoc front (pack-shard g ∷ []) (each pack-shard gs ++ rest)))
+          ∙ e ∙ append-assoc front (pack-shard g ∷ []) (each pack-shard (on-shard s h gs) ++ rest))
+
+      here : less-shard (g .shard) s ≡ false →
+          set (front ++ (pack-shard g ∷ (each pack-shard gs ++ rest))) i (record { shard = g .shard; group = f (pack-group (g .group)) })
+          ≡ front ++ (pack-shard (record { shard = g .shard; group = h (g .group) }) ∷ (each pack-shard (on-shard s h gs) ++ rest))
+      here t =
+          set-at front (pack-shard g) (each pack-shard gs ++ rest) (record { shard = g .shard; group = f (pack-group (g .group)) }) i n
+          ∙ ap₂ (λ (x : Group) (ys : List ShardModel). front ++ (record { shard = g .shard; group = x } ∷ (each pack-shard ys ++ rest))) (same (g .group)) (sym (later-unchanged g gs t a))
+
+      after : less-shard (g .shard) s ≡ false →
+          on-place f (place-from (λ (g : ShardModel). less-shard (g .shard) s) (is-shard s) i (g ∷ gs)) (front ++ (each pack-shard (g ∷ gs) ++ rest))
+          ≡ front ++ (each pack-shard (on-shard s h (g ∷ gs)) ++ rest)
+      after t =
+          rw t
+          (on (same-shard (g .shard) s)
+          (λ u. rw u (rw (getD-at front (pack-shard g) (each pack-shard gs ++ rest) zero-shard-group i n) (here t)))
+          (λ u. rw u (ap (λ (ys : List ShardModel). front ++ (pack-shard g ∷ (each pack-shard ys ++ rest))) (sym (later-unchanged g gs t a)))))
+
+  on-place-packed : (gs : List ShardModel) → rising shard-before gs ≡ true →
+      on-place f (place (λ (g : ShardModel). less-shard (g .shard) s) (is-shard s) gs) (padded 8 zero-shard-group (each pack-shard gs))
+      ≡ padded 8 zero-shard-group (each pack-shard (on-shard s h gs))
+  unfolding padded place
+  on-place-packed gs r =
+      let l : length (each pack-shard (on-shard s h gs)) ≡ length (each pack-shard gs) =
+      length-each pack-shard (on-shard s h gs) ∙ length-each _ gs ∙ sym (length-each pack-shard gs) in
+      place-changes gs [] (replicate (8 - length (each pack-shard gs)) zero-shard-group) 0 refl r
+      ∙ ap (λ (n : ℕ). each pack-shard (on-shard s h gs) ++ replicate (8 - n) zero-shard-group) (sym l)
+
+  -- on packed groups it is the model's change, packed
+  pub on-shard-packed : (m : Model) → rising shard-before (m .shards) ≡ true → on-shard-group s f (pack m) ≡ pack (with-shards (on-shard s h (m .shards)) m)
+  on-shard-packed m r =
+      let e = ap (λ (p : Place). on-place f p (pack m .shards)) (shard-place-packed s m) ∙ on-place-packed (m .shards) r in
+      let n : length (m .shards) ≡ length (on-shard s h (m .shards)) = sym (length-each _ (m .shards)) in
+      λ i. record { «zerostate_mc_seqno» = m .zerostate; masters = pack m .masters; «data» = pack m .«data»; shards = e i; «shard_count» = n i }
+
+  -- the groups rise as before
+  pub on-shard-rises : (gs : List ShardModel) → rising shard-before gs ≡ true → rising shard-before (on-shard s h gs) ≡ true
+  on-shard-rises gs r =
+      rising-each (λ (g : ShardModel). pick (is-shard s g) (record { shard = g .shard; group = h (g .group) }) g) shard-before shard-before gs
+      (λ x y l. rw (kept x, kept y) l) r
+    where
+      kept : (g : ShardModel) → pick (is-shard s g) (record { shard = g .shard; group = h (g .group) }) g .shard ≡ g .shard
+      kept g = on (is-shard s g) (λ t. rw t) (λ t. rw t)
+
+-- ===== each key in turn =====
+
+-- a change by one key that is the rule's on every packed cache of rising groups is so by all
+module _ (f : Cache → BlockIdShort → Cache) (g : Model → BlockIdShort → Model)
+    (one : (m : Model) (k : BlockIdShort) → rising shard-before (m .shards) ≡ true → f (pack m) k ≡ pack (g m k))
+    (rises : (m : Model) (k : BlockIdShort) → rising shard-before (m .shards) ≡ true → rising shard-before (g m k .shards) ≡ true) where
+  keys-packed : (ks : List BlockIdShort) (m : Model) → rising shard-before (m .shards) ≡ true → fold f (pack m) ks ≡ pack (fold g m ks)
+  keys-packed [] m r = refl
+  keys-packed (k ∷ ks) m r = ap (λ (c : Cache). fold f c ks) (one m k r) ∙ keys-packed ks (g m k) (rises m k r)
+
+-- ===== set boundary =====
+
+bound-one-packed : (m : Model) (k : BlockIdShort) → rising shard-before (m .shards) ≡ true → bound-held (pack m) k ≡ pack (bound-one m k)
+unfolding bound-held
+bound-one-packed m k r =
+    on (is-masterchain (key-shard k))
+    (λ t. rw t)
+    (λ t. rw t (on-shard-packed (key-shard k) (set-group-boundary k) (with-boundary k) (λ g. refl) m r))
+
+bound-one-rises : (m : Model) (k : BlockIdShort) → rising shard-before (m .shards) ≡ true → rising shard-before (bound-one m k .shards) ≡ true
+bound-one-rises m k r =
+    on (is-masterchain (key-shard k)) (λ t. rw t r) (λ t. rw t (on-shard-rises (key-shard k) (set-group-boundary k) (with-boundary k) (λ g. refl) (m .shards) r))
+
+pub bound-packed : (ks : List BlockIdShort) (m : Model) → sound m ≡ true → fold bound-held (pack m) ks ≡ pack (fold bound-one m ks)
+bound-packed ks m ok = keys-packed bound-held bound-one bound-one-packed bound-one-rises ks m (parts m ok .rest .shards .order)
+
+-- ===== collect =====
+
+first-changed : {A B : Type 0} (f : A → A) (p : B → A) (h : B → B) → ((x : B) → f (p x) ≡ p (h x)) → (xs : List B) (rest : List A) →
+    changed-first (length xs) f (each p xs ++ rest) ≡ each p (each h xs) ++ rest
+first-changed f p h same [] rest = refl
+first-changed f p h same (x ∷ xs) rest = ap₂ _∷_ (same x) (first-changed f p h same xs rest)
+
+collected-shards : (gs : List ShardModel) →
+    changed-first (length gs) collect-shard-group (padded 8 zero-shard-group (each pack-shard gs)) ≡ padded 8 zero-shard-group (each pack-shard (each collect-shard gs))
+unfolding padded
+collected-shards gs =
+    let l : length (each pack-shard (each collect-shard gs)) ≡ length (each pack-shard gs) =
+    length-each pack-shard (each collect-shard gs) ∙ length-each collect-shard gs ∙ sym (length-each pack-shard gs) in
+    first-changed collect-shard-group pack-shard collect-shard
+    (λ g. ap (λ (x : Group). record { shard = g .shard; group = x }) (collect-group-packed (g .group))) gs (replicate (8 - length (each pack-shard gs)) zero-shard-group)
+    ∙ ap (λ (n : ℕ). each pack-shard (each collect-shard gs) ++ replicate (8 - n) zero-shard-group) (sym l)
+
+module _ (m : Model) where
+  collected-by-highest : (o : Option ℕ) → drop-collected (pack-seqno o) (pack m .«data») ≡ pack (with-data (kept-by (λ (n : ℕ) (i : BlockId). leb n (i .seqno)) o (m .ids)) (m .range) m) .«data»
+  collected-by-highest none = refl
+  collected-by-highest (some n) = drop-ids-below-packed n m
+
+  removed-by-lowest : (o : Option ℕ) → drop-removed (pack-seqno o) (pack m .«data») ≡ pack (with-data (kept-by (λ (n : ℕ) (i : BlockId). ltb (i .seqno) n) o (m .ids)) (m .range) m) .«data»
+  removed-by-lowest none = refl
+  removed-by-lowest (some n) = drop-ids-from-packed n m
+
+  collected-ids : drop-collected (highest-below-boundary (pack m .masters .group)) (pack m .«data») ≡ pack (do-collect m) .«data»
+  collected-ids =
+      let gone = filter (below-boundary (m .masters .boundary)) (m .masters .entries) in
+      ap (λ (o : SeqnoOption). drop-collected o (pack m .«data»)) (highest-below-boundary-packed (m .masters))
+      ∙ collected-by-highest (highest-seqno (each entry-seqno gone))
+      ∙ ap (λ (ids : List BlockId). pack (with-data ids (m .range) m) .«data») (sym (below-go entry-seqno (λ (i : BlockId). i .seqno) gone (m .ids)))
+
+  removed-ids : (n : ℕ) → drop-removed (lowest-collated-above n (pack m .masters .group)) (pack m .«data»)
+      ≡ pack (with-data (fold remove-ids (m .ids) (filter (collated-above n) (m .masters .entries))) (m .range) m) .«data»
+  removed-ids n =
+      let gone = filter (collated-above n) (m .masters .entries) in
+      ap (λ (o : SeqnoOption). drop-removed o (pack m .«data»)) (lowest-collated-above-packed n (m .masters))
+      ∙ removed-by-lowest (lowest-seqno (each entry-seqno gone))
+      ∙ ap (λ (ids : List BlockId). pack (with-data ids (m .range) m) .«data») (sym (from-go entry-seqno (λ (i : BlockId). i .seqno) gone (m .ids)))
+
+  pub collect-packed : collect-held (pack m) ≡ pack (do-collect m)
+  unfolding collect-held
+  collect-packed =
+      let g = collect-masters-packed (m .masters) in
+      let d = collected-ids in
+      let e = collected-shards (m .shards) in
+      let n : length (m .shards) ≡ length (each collect-shard (m .shards)) = sym (length-each collect-shard (m .shards)) in
+      λ i. record { «zerostate_mc_seqno» = m .zerostate; masters = g i; «data» = d i; shards = e i; «shard_count» = n i }
+
+-- ===== remove next collated =====
+
+removed-masters : (n : ℕ) (m : Model) →
+    remove-held-masters n (pack m)
+    ≡ pack (record {
+      zerostate = m .zerostate;
+      masters = without-collated-above n (m .masters);
+      ids = fold remove-ids (m .ids) (filter (collated-above n) (m .masters .entries));
+      range = m .range;
+      shards = m .shards;
+    })
+removed-masters n m =
+    let g = remove-collated-masters-above-packed (m .masters) n in
+    let d = removed-ids m n in
+    λ i. record { «zerostate_mc_seqno» = m .zerostate; masters = g i; «data» = d i; shards = pack m .shards; «shard_count» = length (m .shards) }
+
+remove-one-packed : (m : Model) (k : BlockIdShort) → rising shard-before (m .shards) ≡ true → remove-held (pack m) k ≡ pack (remove-one m k)
+unfolding remove-held
+remove-one-packed m k r =
+    on (is-masterchain (key-shard k))
+    (λ t. rw t (removed-masters (k .seqno) m))
+    (λ t. rw t (on-shard-packed (key-shard k) (remove-collated-above (k .seqno)) (without-collated-above (k .seqno)) (λ g. remove-collated-above-packed g (k .seqno)) m r))
+
+remove-one-rises : (m : Model) (k : BlockIdShort) → rising shard-before (m .shards) ≡ true → rising shard-before (remove-one m k .shards) ≡ true
+remove-one-rises m k r =
+    on (is-masterchain (key-shard k))
+    (λ t. rw t r)
+    (λ t. rw t (on-shard-rises (key-shard k) (remove-collated-above (k .seqno)) (without-collated-above (k .seqno)) (λ g. remove-collated-above-packed g (k .seqno)) (m .shards) r))
+
+pub remove-packed : (ks : List BlockIdShort) (m : Model) → sound m ≡ true → fold remove-held (pack m) ks ≡ pack (fold remove-one m ks)
+remove-packed ks m ok = keys-packed remove-held remove-one remove-one-packed remove-one-rises ks m (parts m ok .rest .shards .order)
+
+-- ===== the calls =====
+
+-- an answer gives back what was packed into it
+abbrev view-change : ChangeAnswer → Option ℕ
+view-change change-done = none
+view-change (change-refused n) = some n
+
+view-pack-change : (o : Option ℕ) → view-change (pack-change o) ≡ o
+view-pack-change none = refl
+view-pack-change (some n) = refl
+
+-- A change of a cache that is the rule's on every packed sound one, after the questions of the call, is the call.
+module _ (q : Request) (own : List Question) (asks : (m : Model) → further m 0 q ≡ own) (f : Cache → Cache) (g : Model → Model)
+    (does : (m : Model) → effect m q ≡ plain done (g m)) (packed : (m : Model) → sound m ≡ true → f (pack m) ≡ pack (g m)) (c : Cache) where
+  change-packed : (m : Model) → sound m ≡ true → change-outcome (done-with (f (pack m))) ≡ pack-outcome (answered none m (unlent q))
+  change-packed m ok =
+      ap (λ (x : Cache). change-outcome (done-with x)) (packed m ok) ∙ ap (λ (e : Effect). pack-outcome (outcome-of e [])) (sym (does m))
+
+  module _ (a : ChangeAnswer) (answers : a ≡ pack-change (first-no (ask 1 (sound-cache c) ∷ own))) where
+    asked : first-no (questions-on c (unlent q)) ≡ view-change a
+    asked =
+        ap (λ (qs : List Question). first-no (ask 1 (sound-cache c) ∷ qs)) (asks (view c)) ∙ sym (view-pack-change (first-no (ask 1 (sound-cache c) ∷ own)))
+        ∙ ap view-change (sym answers)
+
+    pub change-is : a ≡ change-done → (d : Cache) → d ≡ f c → change-outcome (done-with d) ≡ call-on c (unlent q)
+    unfolding call-on
+    change-is h d e =
+        let n : first-no (questions-on c (unlent q)) ≡ none = asked ∙ ap view-change h in
+        ap (λ (x : Cache). change-outcome (done-with x)) e
+        ∙ on-sound (unlent q) (λ (x : Cache). change-outcome (done-with (f x))) (λ m. []) change-packed c (all-yes (questions-on c (unlent q)) n .0)
+        ∙ ap (λ (o : Option ℕ). answered-on o c (unlent q)) (sym n)
+
+    pub change-refuses : (n : ℕ) → a ≡ change-refused n → change-outcome (record { answer = a; cache = c }) ≡ call-on c (unlent q)
+    change-refuses n h =
+        ap (λ (x : ChangeAnswer). change-outcome (record { answer = x; cache = c })) h ∙ sym (no-leaves c (unlent q) n (asked ∙ ap view-change h))
+
+-- their questions and effects
+pub asks-boundary : (ks : Keys) (m : Model) → further m 0 (set-boundary ks) ≡ keys-questions ks
+unfolding further
+asks-boundary ks m = refl
+
+pub sets-boundary : (ks : Keys) (m : Model) → effect m (set-boundary ks) ≡ plain done (fold bound-one m (listed-keys ks))
+unfolding effect
+sets-boundary ks m = refl
+
+pub asks-nothing : (m : Model) → further m 0 collect ≡ []
+unfolding further
+asks-nothing m = refl
+
+pub collects : (m : Model) → effect m collect ≡ plain done (do-collect m)
+unfolding effect
+collects m = refl
+
+pub asks-removal : (ks : Keys) (m : Model) → further m 0 (remove-next-collated ks) ≡ keys-questions ks
+unfolding further
+asks-removal ks m = refl
+
+pub removes : (ks : Keys) (m : Model) → effect m (remove-next-collated ks) ≡ plain done (fold remove-one m (listed-keys ks))
+unfolding effect
+removes ks m = refl
+
+-- ===== the steps of the code =====
+
+module _ (s : ShardIdent) (f : Group → Group) (c : Cache) (long : length (c .shards) ≡ 8) (k : ℕ) where
+  pub shard-unknown : shard-place s (c .«shard_count») (c .shards) ≡ place-vacant k → c ≡ on-shard-group s f c
+  shard-unknown e = ap (λ (p : Place). with-shard-groups (on-place f p (c .shards)) c) (sym e)
+
+  -- d is any group
+  pub shard-known : (e : shard-place s (c .«shard_count») (c .shards) ≡ place-at k) (d : ShardGroup) (g : Group) → g ≡ f (getD (c .shards) k d .group) → (r : Cache) →
+      r ≡ with-shard-groups (with-group-at k g (c .shards)) c → r ≡ on-shard-group s f c
+  shard-known e d g eg r er =
+      let l = shard-place-listed s c long k e in
+      er ∙ ap (λ (x : Group). with-shard-groups (with-group-at k x (c .shards)) c)
+      (eg ∙ ap (λ (x : ShardGroup). f (x .group)) (getD-any (c .shards) k d zero-shard-group (omega (arith, long))))
+      ∙ ap (λ (p : Place). with-shard-groups (on-place f p (c .shards)) c) (sym e)
+
+-- one key more
+module _ (f : Cache → BlockIdShort → Cache) (l : List BlockIdShort) (count i : ℕ) (c : Cache) where
+  pub keys-next : (d : BlockIdShort) → i < length l → i < count → (r : Cache) → r ≡ f c (getD l i d) → fold f c (left l count i) ≡ fold f r (left l count (i + 1))
+  keys-next d h k r e = rw (left-more l count i d h k, e)
+
+  pub keys-passed : count ≤ i → fold f c (left l count i) ≡ c
+  keys-passed h = rw (left-passed l count i h)
+
+  pub keys-over : length l ≤ i → fold f c (left l count i) ≡ c
+  keys-over h = rw (left-over l count i h)
+
+-- the first elements changed, one by one
+module _ {A : Type 0} (f : A → A) where
+  first-suc : (d : A) (xs : List A) (i : ℕ) → i < length xs → set (changed-first i f xs) i (f (getD xs i d)) ≡ changed-first (suc i) f xs
+  first-suc d [] i h = absurd (not-suc-le-zero h)
+  first-suc d (x ∷ xs) zero h = refl
+  first-suc d (x ∷ xs) (suc i) h = ap (λ (r : List A). f x ∷ r) (first-suc d xs i (le-of-suc-le-suc h))
+
+  first-more : (d : A) (xs : List A) (i : ℕ) → i < length xs → set (changed-first i f xs) i (f (getD xs i d)) ≡ changed-first (i + 1) f xs
+  first-more d xs i h = rw (add-one i) (first-suc d xs i h)
+
+  pub first-over : (xs : List A) (i n : ℕ) → length xs ≤ i → length xs ≤ n → changed-first i f xs ≡ changed-first n f xs
+  first-over [] zero zero h k = refl
+  first-over [] zero (suc n) h k = refl
+  first-over [] (suc i) zero h k = refl
+  first-over [] (suc i) (suc n) h k = refl
+  first-over (x ∷ xs) zero n h k = absurd (not-suc-le-zero h)
+  first-over (x ∷ xs) (suc i) zero h k = absurd (not-suc-le-zero k)
+  first-over (x ∷ xs) (suc i) (suc n) h k = ap (λ (r : List A). f x ∷ r) (first-over xs i n (le-of-suc-le-suc h) (le-of-suc-le-suc k))
+
+-- one group more is collected; d is any group
+pub collected-next : (d : ShardGroup) (gs : List ShardGroup) (i : ℕ) → i < length gs → (out : List ShardGroup) → out ≡ changed-first i collect-shard-group gs → (g : Group) →
+    g ≡ collect-group (getD gs i d .group) → set out i (record { shard = getD gs i d .shard; group = g }) ≡ changed-first (i + 1) collect-shard-group gs
+collected-next d gs i h out eo g eg =
+    ap₂ (λ (o : List ShardGroup) (x : Group). set o i (record { shard = getD gs i d .shard; group = x })) eo eg ∙ first-more collect-shard-group d gs i h
+
+-- question 1, then those of the keys
+module _ (ks : Keys) (c : Cache) where
+  abbrev refusal-answer : Refusal → ChangeAnswer
+  refusal-answer no-refusal = change-done
+  refusal-answer (refusal-number n) = change-refused n
+
+  answer-packed : (o : Option ℕ) → refusal-answer (pack-refusal o) ≡ pack-change o
+  answer-packed none = refl
+  answer-packed (some n) = refl
+
+  pub keys-unsound : sound-cache c ≡ false → change-refused 1 ≡ keys-answer ks c
+  keys-unsound t = rw t
+
+  pub keys-answered : sound-cache c ≡ true → (r : Refusal) → r ≡ pack-refusal (first-no (keys-questions ks)) → (x : Refusal) → r ≡ x → refusal-answer x ≡ keys-answer ks c
+  keys-answered t r e x q = rw t (ap refusal-answer (sym q ∙ e) ∙ answer-packed (first-no (keys-questions ks)))
+
+-- a key of the masterchain, or of a shard
+module _ (c : Cache) (k : BlockIdShort) (s : ShardIdent) (e : s ≡ key-shard k) where
+  side : {b : Bool} → is-masterchain s ≡ b → is-masterchain (key-shard k) ≡ b
+  side t = ap is-masterchain (sym e) ∙ t
+
+  module _ (r : Cache) where
+    pub bounds-masters : is-masterchain s ≡ true → (g : MasterGroup) → g ≡ set-master-boundary k (c .masters) → r ≡ with-master-group g c → r ≡ bound-held c k
+    unfolding bound-held
+    bounds-masters t g eg er = rw (side t) (er ∙ ap (λ (x : MasterGroup). with-master-group x c) eg)
+
+    pub bounds-shard : is-masterchain s ≡ false → r ≡ on-shard-group s (set-group-boundary k) c → r ≡ bound-held c k
+    unfolding bound-held
+    bounds-shard t er = rw (side t) (er ∙ ap (λ (x : ShardIdent). on-shard-group x (set-group-boundary k) c) e)
+
+    pub removes-masters : is-masterchain s ≡ true → r ≡ remove-held-masters (k .seqno) c → r ≡ remove-held c k
+    unfolding remove-held
+    removes-masters t er = rw (side t) er
+
+    pub removes-shard : is-masterchain s ≡ false → r ≡ on-shard-group s (remove-collated-above (k .seqno)) c → r ≡ remove-held c k
+    unfolding remove-held
+    removes-shard t er = rw (side t) (er ∙ ap (λ (x : ShardIdent). on-shard-group x (remove-collated-above (k .seqno)) c) e)
+
+-- the parts of a collected cache
+pub collect-made : (c : Cache) (h : SeqnoOption) (g : MasterGroup) (d : MasterData) (gs : List ShardGroup) → h ≡ highest-below-boundary (c .masters .group) →
+    g ≡ collect-masters (c .masters) → d ≡ drop-collected h (c .«data») → gs ≡ changed-first (c .«shard_count») collect-shard-group (c .shards) →
+    record { «zerostate_mc_seqno» = c .«zerostate_mc_seqno»; masters = g; «data» = d; shards = gs; «shard_count» = c .«shard_count» } ≡ collect-held c
+unfolding collect-held
+collect-made c h g d gs eh eg ed es =
+    let x = ed ∙ ap (λ (o : SeqnoOption). drop-collected o (c .«data»)) eh in
+    λ i. record { «zerostate_mc_seqno» = c .«zerostate_mc_seqno»; masters = eg i; «data» = x i; shards = es i; «shard_count» = c .«shard_count» }
+
+-- .. and of one without the masters removed
+pub remove-made : (n : ℕ) (c : Cache) (l : SeqnoOption) (g : MasterGroup) (d : MasterData) (r : Cache) → l ≡ lowest-collated-above n (c .masters .group) →
+    g ≡ remove-collated-masters-above n (c .masters) → d ≡ drop-removed l (c .«data») → (w : Cache) → w ≡ with-master-group g c → r ≡ with-master-data d w → r ≡ remove-held-masters n c
+remove-made n c l g d r el eg ed w ew er = rw (er, ew, eg, ed, el)

@@ -1,0 +1,204 @@
+// Document 01, Whole cache: Peek.
+ghost use mathlib.Core.Path.{_≡_};
+ghost use Rattle.block_records.specs.BlockIds.{listed-tops};
+ghost use Rattle.block_records.specs.Lists.{filter};
+ghost use Rattle.blocks_cache.specs.Calls.{peek, unlent};
+ghost use Rattle.blocks_cache.specs.CacheLayout.{call-on};
+ghost use Rattle.blocks_cache.specs.Extraction.{starts};
+ghost use Rattle.blocks_cache.specs.Peeks.{held-tops, pack-seen, pack-view, peek-held, peek-outcome, top-row, zero-peek, zero-row, zeroed-peek};
+use crate::cache::Cache;
+use crate::lookup::entry_under;
+use crate::soundness::sound_cache;
+use block_records::block_id::BlockId;
+use block_records::block_id::BlockIdShort;
+use block_records::block_id::key;
+use block_records::block_id::zero_id;
+use block_records::questions::seqno_fits;
+use block_records::top_block::TopBlock;
+use block_records::top_block::TopBlocks;
+use blocks_group::queries::first_applied_master;
+use blocks_group::search::Found;
+
+// Id, reference and payload.
+pub struct PeekRow {
+    pub block_id: BlockId,
+    pub ref_by_mc_seqno: u32,
+    pub payload: u64,
+}
+
+// The key of the first top that is not cached naming the master.
+pub enum MissingTop {
+    Absent,
+    At(BlockIdShort),
+}
+
+pub enum PeekAnswer {
+    Found,
+    Nothing,
+    Refused(u32),
+}
+
+// The master's row and those of its tops; zeros beyond the count, and where nothing is found.
+pub struct Peek {
+    pub answer: PeekAnswer,
+    pub master: PeekRow,
+    pub tops: [PeekRow; 8],
+    pub count: usize,
+    pub missing: MissingTop,
+}
+
+// A top's row, where it is cached naming the master; else zeros.
+pub(crate) struct SeenTop {
+    pub seen: bool,
+    pub row: PeekRow,
+}
+
+// The tops' rows, zeros after them, and the one that is missing.
+pub(crate) struct TopRows {
+    pub rows: [PeekRow; 8],
+    pub count: usize,
+    pub missing: MissingTop,
+}
+
+fn zero_row() -> PeekRow
+    ensures { λ r. ⌜ r ≡ zero-row ⌝ }
+{
+    let id = zero_id();
+    PeekRow {
+        block_id: id,
+        ref_by_mc_seqno: 0,
+        payload: 0,
+    }
+}
+
+// An answer with zeros beside it.
+fn zero_peek(answer: PeekAnswer) -> Peek
+    ensures { λ r. ⌜ r ≡ zero-peek answer ⌝ }
+{
+    let row = zero_row();
+    Peek {
+        answer,
+        master: row,
+        tops: [row; 8],
+        count: 0,
+        missing: MissingTop::Absent,
+    }
+}
+
+// Updated, with reference above the zerostate.
+fn is_starting(item: TopBlock, zerostate: u32) -> bool
+    ensures { λ r. ⌜ r ≡ starts zerostate item ⌝ }
+{
+    item.updated & (zerostate < item.ref_by_mc_seqno)
+}
+
+// The row of a top that is cached naming the master; id and reference are the item's.
+fn top_row(cache: Cache, seqno: u32, item: TopBlock) -> SeenTop
+    ensures { λ r. ⌜ r ≡ pack-seen (top-row seqno cache item) ⌝ }
+{
+    let short = key(item.block_id);
+    let at = entry_under(cache, short);
+    let found = at.found;
+    let Found::At(_) = found else {
+        let row = zero_row();
+        return SeenTop { seen: false, row };
+    };
+    let entry = at.entry;
+    if entry.ref_by_mc_seqno != seqno {
+        let row = zero_row();
+        return SeenTop { seen: false, row };
+    }
+    let id = item.block_id;
+    let row = PeekRow {
+        block_id: id,
+        ref_by_mc_seqno: item.ref_by_mc_seqno,
+        payload: entry.payload,
+    };
+    SeenTop { seen: true, row }
+}
+
+// The starting items in order, as long as each is cached naming the master.
+fn view_tops(cache: Cache, seqno: u32, tops: TopBlocks) -> TopRows
+    ensures { λ r. ⌜ r ≡ pack-view (held-tops seqno cache (filter (starts (cache .«zerostate_mc_seqno»)) (listed-tops tops))) ⌝ }
+{
+    let zero = zero_row();
+    let mut rows = [zero; 8];
+    let mut count: usize = 0;
+    let items = tops.items;
+    let listed = tops.count;
+    let mut i: usize = 0;
+    while i < 8 {
+        if listed <= i {
+            return TopRows {
+                rows,
+                count,
+                missing: MissingTop::Absent,
+            };
+        }
+        let item = items[i];
+        if !is_starting(item, cache.zerostate_mc_seqno) {
+            i += 1;
+            continue;
+        }
+        let top = top_row(cache, seqno, item);
+        if !top.seen {
+            let short = key(item.block_id);
+            return TopRows {
+                rows,
+                count,
+                missing: MissingTop::At(short),
+            };
+        }
+        let row = top.row;
+        rows[count] = row;
+        count += 1;
+        i += 1;
+    }
+    TopRows {
+        rows,
+        count,
+        missing: MissingTop::Absent,
+    }
+}
+
+// The lowest applied master at or above a seqno, and its starting items.
+fn peek_master(cache: Cache, from: u32) -> Peek
+    ensures { λ r. ⌜ r ≡ peek-held from cache ⌝ }
+{
+    let masters = cache.masters;
+    let at = first_applied_master(masters, from);
+    let found = at.found;
+    let Found::At(_) = found else {
+        return zero_peek(PeekAnswer::Nothing);
+    };
+    let block = at.block;
+    let entry = block.entry;
+    let id = entry.block_id;
+    let master = PeekRow {
+        block_id: id,
+        ref_by_mc_seqno: entry.ref_by_mc_seqno,
+        payload: entry.payload,
+    };
+    let view = view_tops(cache, id.seqno, block.tops);
+    let rows = view.rows;
+    let missing = view.missing;
+    Peek {
+        answer: PeekAnswer::Found,
+        master,
+        tops: rows,
+        count: view.count,
+        missing,
+    }
+}
+
+pub fn peek_front_applied_mc_block_subgraph(cache: Cache, from: u32) -> Peek
+    ensures { λ r. ⌜ (peek-outcome cache r ≡ call-on cache (unlent (peek from))) × (r ≡ zeroed-peek r) ⌝ }
+{
+    if !sound_cache(cache) {
+        return zero_peek(PeekAnswer::Refused(1));
+    }
+    if !seqno_fits(from) {
+        return zero_peek(PeekAnswer::Refused(2));
+    }
+    peek_master(cache, from)
+}
