@@ -31,14 +31,14 @@ use Rattle.block_records.specs.EntryLayout.{pack-prev-ids}
 use Rattle.block_records.specs.Lists.{padded, pick}
 use Rattle.block_records.specs.Zeros.{zero-prev-ids}
 use Rattle.blocks_cache.proofs.PlaceLaws.{at-within, inserted-few, inserted-many, inserts, put-inserts, put-replaces, replaced-few, replaces, vacant-within}
-use Rattle.blocks_cache.specs.TailArrays.{cached-row, found-step, fresh-ids, held-at, hold-row, less-last, listed-rows, missing-row, no-step, put-row, replaces-row, row-at, row-before, row-below, row-place, tail-step, two-ids, with-rows, zero-tail}
+use Rattle.blocks_cache.specs.TailArrays.{cached-row, found-step, fresh-ids, held-at, hold-row, less-last, listed-tails, missing-row, no-step, put-row, replaces-row, row-at, row-before, row-below, row-place, tail-step, two-ids, with-rows, zero-tail}
 use Rattle.blocks_cache.specs.TailIdsOnce.{knows, unknown-ids}
 
 -- the first where the test holds, else the second
-picked : {A : Type 0} (b : Bool) (x y : A) → b ≡ true → x ≡ pick b x y
+pub picked : {A : Type 0} (b : Bool) (x y : A) → b ≡ true → x ≡ pick b x y
 picked b x y t = rw t
 
-passed : {A : Type 0} (b : Bool) (x y : A) → b ≡ false → y ≡ pick b x y
+pub passed : {A : Type 0} (b : Bool) (x y : A) → b ≡ false → y ≡ pick b x y
 passed b x y t = rw t
 
 -- ===== what an id gives and queues =====
@@ -84,30 +84,30 @@ row-level r x t =
     (λ u. rw (u, shard-order .tri (x .shard) (r .shard) u t))
 
 module _ (t : TailRows) (long : length (t .rows) ≡ 17) (r : TailIdsRow) (k : ℕ) where
-  few : length (listed-rows t) ≤ 17
+  few : length (listed-tails t) ≤ 17
   few = rw (length-within 17 (t .count) (t .rows) long) (within-few 17 (t .count))
 
-  few-below : t .count < 17 → length (listed-rows t) < 17
-  few-below h = ltb-true (length (listed-rows t)) 17 (few-listed 17 (t .count) (t .rows) long ∙ lt-ltb (t .count) 17 h)
+  few-below : t .count < 17 → length (listed-tails t) < 17
+  few-below h = ltb-true (length (listed-tails t)) 17 (few-listed 17 (t .count) (t .rows) long ∙ lt-ltb (t .count) 17 h)
 
-  full : 17 ≤ t .count → 17 ≤ length (listed-rows t)
-  full h = ltb-false (length (listed-rows t)) 17 (few-listed 17 (t .count) (t .rows) long ∙ le-ltb (t .count) 17 h)
+  full : 17 ≤ t .count → 17 ≤ length (listed-tails t)
+  full h = ltb-false (length (listed-tails t)) 17 (few-listed 17 (t .count) (t .rows) long ∙ le-ltb (t .count) 17 h)
 
   module _ (e : row-place (r .shard) t ≡ place-at k) where
-    at-listed : k < length (listed-rows t)
-    at-listed = at-within (row-below (r .shard)) (row-at (r .shard)) (listed-rows t) k e
+    at-listed : k < length (listed-tails t)
+    at-listed = at-within (row-below (r .shard)) (row-at (r .shard)) (listed-tails t) k e
 
     -- the place of a row that is listed
     pub row-listed : k < 17
     row-listed = omega (arith, at-listed, few)
 
-    pub row-replaces : Splices 17 k (k + 1) (length (listed-rows t))
-    row-replaces = replaces 17 r (listed-rows t) few k at-listed
+    pub row-replaces : Splices 17 k (k + 1) (length (listed-tails t))
+    row-replaces = replaces 17 r (listed-tails t) few k at-listed
 
-    put-replaced : with-rows (spliced k (k + 1) r (listed-rows t)) ≡ put-row r t
+    put-replaced : with-rows (spliced k (k + 1) r (listed-tails t)) ≡ put-row r t
     put-replaced =
-        let p = put-replaces row-before r (row-at (r .shard)) (row-once r) (row-level r) (listed-rows t) k e in
-        let l = replaced-few 17 r (listed-rows t) few k at-listed in
+        let p = put-replaces row-before r (row-at (r .shard)) (row-once r) (row-level r) (listed-tails t) k e in
+        let l = replaced-few 17 r (listed-tails t) few k at-listed in
         rw (p, l)
 
     -- d is any row
@@ -121,34 +121,34 @@ module _ (t : TailRows) (long : length (t .rows) ≡ 17) (r : TailIdsRow) (k : �
       unfolding hold-row
       held-placed = ap (λ (p : Place). held-at r p t) (sym e)
 
-      pub hold-replaces : not (getD (t .rows) k d .id .present) || less ≡ true → (x : TailRows) → x ≡ with-rows (spliced k (k + 1) r (listed-rows t)) → x ≡ hold-row r t
+      pub hold-replaces : not (getD (t .rows) k d .id .present) || less ≡ true → (x : TailRows) → x ≡ with-rows (spliced k (k + 1) r (listed-tails t)) → x ≡ hold-row r t
       hold-replaces h x q = q ∙ put-replaced ∙ picked (replaces-row r (getD (t .rows) k zero-tail)) (put-row r t) t (held-test true h) ∙ held-placed
 
       pub hold-keeps : not (getD (t .rows) k d .id .present) || less ≡ false → t ≡ hold-row r t
       hold-keeps h = passed (replaces-row r (getD (t .rows) k zero-tail)) (put-row r t) t (held-test false h) ∙ held-placed
 
   module _ (e : row-place (r .shard) t ≡ place-vacant k) where
-    vacant-listed : k ≤ length (listed-rows t)
-    vacant-listed = vacant-within (row-below (r .shard)) (row-at (r .shard)) (listed-rows t) k e
+    vacant-listed : k ≤ length (listed-tails t)
+    vacant-listed = vacant-within (row-below (r .shard)) (row-at (r .shard)) (listed-tails t) k e
 
-    pub row-inserts : t .count < 17 → Splices 17 k k (length (listed-rows t))
-    row-inserts h = inserts 17 r (listed-rows t) few k vacant-listed (few-below h)
+    pub row-inserts : t .count < 17 → Splices 17 k k (length (listed-tails t))
+    row-inserts h = inserts 17 r (listed-tails t) few k vacant-listed (few-below h)
 
     vacant-placed : put-row r t ≡ hold-row r t
     unfolding hold-row
     vacant-placed = ap (λ (p : Place). held-at r p t) (sym e)
 
-    pub hold-inserts : t .count < 17 → (x : TailRows) → x ≡ with-rows (spliced k k r (listed-rows t)) → x ≡ hold-row r t
+    pub hold-inserts : t .count < 17 → (x : TailRows) → x ≡ with-rows (spliced k k r (listed-tails t)) → x ≡ hold-row r t
     hold-inserts h x q =
-        let p = put-inserts row-before r (row-at (r .shard)) (row-once r) (row-level r) (listed-rows t) k e in
-        let l = inserted-few 17 r (listed-rows t) few k vacant-listed (few-below h) in
-        let s : with-rows (spliced k k r (listed-rows t)) ≡ put-row r t = rw (p, l) in
+        let p = put-inserts row-before r (row-at (r .shard)) (row-once r) (row-level r) (listed-tails t) k e in
+        let l = inserted-few 17 r (listed-tails t) few k vacant-listed (few-below h) in
+        let s : with-rows (spliced k k r (listed-tails t)) ≡ put-row r t = rw (p, l) in
         q ∙ s ∙ vacant-placed
 
     pub hold-full : 17 ≤ t .count → t ≡ hold-row r t
     hold-full h =
-        let p = put-inserts row-before r (row-at (r .shard)) (row-once r) (row-level r) (listed-rows t) k e in
-        let l = inserted-many 17 r (listed-rows t) few k vacant-listed (full h) in
+        let p = put-inserts row-before r (row-at (r .shard)) (row-once r) (row-level r) (listed-tails t) k e in
+        let l = inserted-many 17 r (listed-tails t) few k vacant-listed (full h) in
         let s : t ≡ put-row r t = rw (p, l) in
         s ∙ vacant-placed
 

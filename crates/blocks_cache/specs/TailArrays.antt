@@ -2,34 +2,42 @@
 -- On packed rows and a packed cache this is the rule, packed (proofs/TailArrayLaws, TailWalkLaws).
 -- Assumes nothing.
 use mathlib.Core.Bool.{Bool, _&&_, _||_, false, not, true}
-use mathlib.Core.List.{List, [], _∷_}
+use mathlib.Core.List.{List, [], _++_, _∷_}
 use mathlib.Core.Option.{Option, none, some}
-use Prim.Native.Nat.{_+_, ℕ}
+use Prim.Native.Nat.{_+_, suc, zero, ℕ}
 use lib.Dec.{eqb, leb, ltb}
 use lib.ListN.{getD, length, take}
 use Rattle.block_records.specs.declared.block_id.BlockId.{BlockId}
 use Rattle.block_records.specs.declared.block_id.ShardIdent.{ShardIdent}
 use Rattle.block_records.specs.declared.entry.BlockCacheEntry.{BlockCacheEntry}
+use Rattle.block_records.specs.declared.entry.MasterBlock.{MasterBlock}
 use Rattle.block_records.specs.declared.store_records.PrevIds.{PrevIds}
 use Rattle.blocks_cache.specs.declared.cache.Cache.{Cache}
 use Rattle.blocks_cache.specs.declared.master_data.LastId.{LastId}
 use Rattle.blocks_cache.specs.declared.place.Place.{Place}
 use Rattle.blocks_cache.specs.declared.place.Place.the-variants.{At as place-at, Vacant as place-vacant}
+use Rattle.blocks_cache.specs.declared.tail_ids.TailAnswer.{TailAnswer}
+use Rattle.blocks_cache.specs.declared.tail_ids.TailAnswer.the-variants.{Refused as tails-refused, Rows as tails-given}
+use Rattle.blocks_cache.specs.declared.tail_ids.TailIds.{TailIds}
 use Rattle.blocks_cache.specs.declared.tail_ids.TailIdsRow.{TailIdsRow}
 use Rattle.blocks_cache.specs.declared.tail_ids.TailRows.{TailRows}
 use Rattle.blocks_cache.specs.declared.tail_ids.TailStep.{TailStep}
+use Rattle.blocks_cache.specs.declared.tail_ids.TailWalk.{TailWalk}
 use Rattle.blocks_group.specs.declared.group.EntryAt.{EntryAt}
 use Rattle.blocks_group.specs.declared.search.Found.{Found}
 use Rattle.blocks_group.specs.declared.search.Found.the-variants.{At as found-at, Vacant as vacant-at}
-use Rattle.block_records.specs.BlockIds.{id-shard, key, less-id, less-shard, listed-prev-ids, same-shard}
+use Rattle.block_records.specs.BlockIds.{id-shard, key, less-id, less-shard, listed-prev-ids, listed-tops, same-shard}
 use Rattle.block_records.specs.EntryLayout.{pack-prev-ids}
-use Rattle.block_records.specs.Lists.{each, padded, pick, put}
-use Rattle.block_records.specs.Zeros.{zero-prev-ids, zero-shard}
-use Rattle.blocks_cache.specs.Calls.{TailRow}
+use Rattle.block_records.specs.Lists.{each, fold, padded, pick, put}
+use Rattle.block_records.specs.Zeros.{zero-id, zero-prev-ids, zero-shard}
+use Rattle.blocks_cache.specs.CacheLayout.{HeldOutcome}
+use Rattle.blocks_cache.specs.Calls.{Answer, TailRow, refused, tail-ids}
+use Rattle.blocks_cache.specs.Extraction.{top-id}
 use Rattle.blocks_cache.specs.Lookups.{entry-under}
 use Rattle.blocks_cache.specs.MasterDataArrays.{pack-last}
 use Rattle.blocks_cache.specs.Places.{place}
 use Rattle.blocks_cache.specs.TailIdsOnce.{unknown-ids}
+use Rattle.blocks_group.specs.GroupArrays.{answered-master, master-at}
 
 -- ===== the rows =====
 
@@ -54,15 +62,15 @@ abbrev pub pack-tails : List TailRow → TailRows
 pack-tails ts = with-rows (each pack-tail ts)
 
 -- the rows below the count; a count past the 17 places lists them all
-abbrev pub listed-rows : TailRows → List TailIdsRow
-listed-rows t = take (t .count) (t .rows)
+abbrev pub listed-tails : TailRows → List TailIdsRow
+listed-tails t = take (t .count) (t .rows)
 
 -- how many that are
 abbrev pub listed-row-count : ℕ → ℕ
 listed-row-count n = pick (ltb n 17) n 17
 
 abbrev pub view-tails : TailRows → List TailRow
-view-tails t = each view-tail (listed-rows t)
+view-tails t = each view-tail (listed-tails t)
 
 -- ===== a row held =====
 
@@ -77,7 +85,7 @@ row-at s r = same-shard (r .shard) s
 
 -- where a shard's row stands, or the place where it would go in
 abbrev pub row-place : ShardIdent → TailRows → Place
-row-place s t = place (row-below s) (row-at s) (listed-rows t)
+row-place s t = place (row-below s) (row-at s) (listed-tails t)
 
 -- absent being least
 abbrev pub less-last : LastId → LastId → Bool
@@ -85,7 +93,7 @@ less-last a b = b .present && (not (a .present) || less-id (a .id) (b .id))
 
 -- the row put in by shard; one of the same shard is replaced; nothing changes where they would be more than 17
 abbrev pub put-row : TailIdsRow → TailRows → TailRows
-put-row r t = pick (leb (length (put row-before r (listed-rows t))) 17) (with-rows (put row-before r (listed-rows t))) t
+put-row r t = pick (leb (length (put row-before r (listed-tails t))) 17) (with-rows (put row-before r (listed-tails t))) t
 
 -- Per shard the pair held is replaced if its id is absent, or if the new id is less.
 abbrev pub replaces-row : TailIdsRow → TailIdsRow → Bool
@@ -136,3 +144,79 @@ two-ids a takes-a b takes-b = pick takes-a (a ∷ pick takes-b (b ∷ []) []) (p
 -- those that are not known yet, each once; none where 256 places would not hold them
 unfoldable pub fresh-ids : List BlockId → List BlockId → List BlockId
 fresh-ids known ps = pick (leb (length known + length (unknown-ids known ps)) 256) (unknown-ids known ps) []
+
+-- ===== the walk =====
+
+-- the rows so far, and all ids that were queued, each once
+pub record TailState : Type 0 where
+  pub tails : TailRows
+  pub known : List BlockId
+
+-- the ids first, zeros after them
+abbrev pub pack-walk : TailState → TailWalk
+pack-walk w = record { tails = w .tails; ids = padded 258 zero-id (w .known); count = length (w .known) }
+
+abbrev pub walk-state : TailWalk → TailState
+walk-state w = record { tails = w .tails; known = take (w .count) (w .ids) }
+
+-- before the first id: the master's own row
+abbrev pub first-state : TailIdsRow → TailState
+first-state r = record { tails = with-rows (r ∷ []); known = [] }
+
+-- a row given is held, and those of the previous ids that are not known are queued
+abbrev pub stepped : TailStep → TailState → TailState
+stepped s w = record { tails = hold-given s (w .tails); known = w .known ++ fresh-ids (w .known) (listed-prev-ids (s .queued)) }
+
+unfoldable pub take-tail-id : Cache → ℕ → Bool → TailState → BlockId → TailState
+take-tail-id c m as-top w i = stepped (step-of c m as-top i) w
+
+-- the id at place j of the queue, if one stands there
+abbrev pub take-queued-at : Cache → ℕ → ℕ → TailState → TailState
+take-queued-at c m j w = pick (ltb j (length (w .known))) (take-tail-id c m false w (getD (w .known) j zero-id)) w
+
+-- first in, first out: those at so many places from place j on
+unfoldable pub take-queued : ℕ → Cache → ℕ → ℕ → TailState → TailState
+take-queued zero c m j w = w
+take-queued (suc k) c m j w = take-queued k c m (j + 1) (take-queued-at c m j w)
+
+-- (id, previous ids) of the master, then all tops in turn, and then each id queued once
+unfoldable pub block-tails : MasterBlock → Cache → TailRows
+block-tails b c =
+    take-queued 256 c (b .entry .«block_id» .seqno) 0
+    (fold (take-tail-id c (b .entry .«block_id» .seqno) true) (first-state (cached-row (b .entry .«block_id») (b .entry .«prev_ids»)))
+    (each top-id (listed-tops (b .tops)))) .tails
+
+-- ===== what an answer says =====
+
+abbrev pub tails-say : TailAnswer → TailRows → Answer
+tails-say tails-given t = tail-ids (view-tails t)
+tails-say (tails-refused n) t = refused n
+
+-- the cache is left as it was given; no slice is lent
+abbrev pub tail-outcome : Cache → TailIds → HeldOutcome
+tail-outcome c r = record { cache = c; answer = tails-say (r .answer) (r .tails); slice = [] }
+
+-- the rows with zeros in what they do not use; none beside a refusal
+abbrev pub zeroed-rows : TailAnswer → TailRows → TailRows
+zeroed-rows tails-given t = pack-tails (view-tails t)
+zeroed-rows (tails-refused n) t = with-rows []
+
+abbrev pub zeroed-tails : TailIds → TailIds
+zeroed-tails r = record { answer = r .answer; tails = zeroed-rows (r .answer) (r .tails) }
+
+-- ===== tail ids =====
+
+abbrev pub no-tails : TailAnswer → TailIds
+no-tails a = record { answer = a; tails = with-rows [] }
+
+abbrev pub given-tails : TailRows → TailIds
+given-tails t = record { answer = tails-given; tails = t }
+
+-- 12. Tail ids above the zerostate: is the master entry cached?
+abbrev pub tails-at : Option MasterBlock → Cache → TailIds
+tails-at none c = no-tails (tails-refused 12)
+tails-at (some b) c = given-tails (block-tails b c)
+
+-- seqno ≤ zerostate, empty
+unfoldable pub read-tails : ℕ → Cache → TailIds
+read-tails n c = pick (leb n (c .«zerostate_mc_seqno»)) (no-tails tails-given) (tails-at (answered-master (master-at n (c .masters))) c)

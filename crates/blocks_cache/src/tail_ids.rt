@@ -1,18 +1,28 @@
 // Document 01, Whole cache: Tail ids.
+ghost use mathlib.Core.Bool.{true};
+ghost use mathlib.Core.List.{[], _∷_};
 ghost use mathlib.Core.Path.{_≡_};
 ghost use Prim.Native.Nat.{_≤_};
 ghost use lib.ListN.{length, take};
 ghost use Rattle.block_records.specs.Arrays.{Splices, spliced};
-ghost use Rattle.block_records.specs.BlockIds.{listed-prev-ids};
-ghost use Rattle.blocks_cache.specs.TailIdsOnce.{knows};
-ghost use Rattle.blocks_cache.specs.TailArrays.{zero-tail, with-rows, listed-rows, listed-row-count, row-place, less-last, hold-row};
-ghost use Rattle.blocks_cache.specs.TailArrays.{cached-row, missing-row, no-step, tail-step, step-of, hold-given, two-ids, fresh-ids};
+ghost use Rattle.block_records.specs.BlockIds.{listed-prev-ids, listed-tops};
 ghost use Rattle.block_records.specs.EntryLayout.{pack-prev-ids};
+ghost use Rattle.block_records.specs.Lists.{each, fold};
+ghost use Rattle.blocks_cache.specs.Calls.{read-tail-ids, unlent};
+ghost use Rattle.blocks_cache.specs.CacheLayout.{call-on};
+ghost use Rattle.blocks_cache.specs.Extraction.{top-id};
+ghost use Rattle.blocks_cache.specs.TailIdsOnce.{knows};
+ghost use Rattle.blocks_cache.specs.TailArrays.{zero-tail, with-rows, listed-tails, listed-row-count, row-place, less-last, hold-row};
+ghost use Rattle.blocks_cache.specs.TailArrays.{cached-row, missing-row, no-step, tail-step, step-of, hold-given, two-ids, fresh-ids};
+ghost use Rattle.blocks_cache.specs.TailArrays.{pack-walk, walk-state, first-state, take-tail-id, take-queued, block-tails, no-tails, read-tails};
+ghost use Rattle.blocks_cache.specs.TailArrays.{tail-outcome, zeroed-tails};
 use crate::cache::Cache;
 use crate::lookup::entry_under;
 use crate::master_data::LastId;
 use crate::place::Place;
+use crate::soundness::sound_cache;
 use block_records::block_id::BlockId;
+use block_records::block_id::BlockIdShort;
 use block_records::block_id::ShardIdent;
 use block_records::block_id::id_shard;
 use block_records::block_id::key;
@@ -22,9 +32,13 @@ use block_records::block_id::same_id;
 use block_records::block_id::same_shard;
 use block_records::block_id::zero_id;
 use block_records::block_id::zero_shard;
+use block_records::entry::MasterBlock;
+use block_records::questions::key_fits;
 use block_records::store_records::PrevIds;
 use block_records::store_records::zero_prev_ids;
+use block_records::top_block::TopBlocks;
 use blocks_group::group::EntryAt;
+use blocks_group::group::master_at;
 use blocks_group::search::Found;
 
 // Of a shard: an id or absent over zeros, and previous ids.
@@ -45,6 +59,24 @@ pub(crate) struct TailStep {
     pub given: bool,
     pub row: TailIdsRow,
     pub queued: PrevIds,
+}
+
+// The rows so far, and the ids that were queued, each once: at most 256, and two places more, so that two can always be written.
+pub(crate) struct TailWalk {
+    pub tails: TailRows,
+    pub ids: [BlockId; 258],
+    pub count: usize,
+}
+
+pub enum TailAnswer {
+    Rows,
+    Refused(u32),
+}
+
+// The rows, zeros in the places that are left; none beside a refusal.
+pub struct TailIds {
+    pub answer: TailAnswer,
+    pub tails: TailRows,
 }
 
 // ===== the rows =====
@@ -95,8 +127,8 @@ fn row_place(tails: TailRows, shard: ShardIdent) -> Place
 
 // The first `at` rows, the given one, and those of place `from` on.
 fn put_row_at(tails: TailRows, at: usize, from: usize, row: TailIdsRow) -> TailRows
-    requires { ⌜ Splices 17 at from (length (listed-rows tails)) ⌝ }
-    ensures { λ r. ⌜ r ≡ with-rows (spliced at from row (listed-rows tails)) ⌝ }
+    requires { ⌜ Splices 17 at from (length (listed-tails tails)) ⌝ }
+    ensures { λ r. ⌜ r ≡ with-rows (spliced at from row (listed-tails tails)) ⌝ }
 {
     let zero = zero_tail();
     let mut rows = [zero; 17];
@@ -304,4 +336,122 @@ fn fresh_ids(ids: [BlockId; 258], count: usize, prev: PrevIds) -> PrevIds
         return fresh;
     }
     zero_prev_ids()
+}
+
+// ===== the walk =====
+
+// One row, and zeros after it.
+fn one_row(row: TailIdsRow) -> TailRows
+    ensures { λ r. ⌜ r ≡ with-rows (row ∷ []) ⌝ }
+{
+    let zero = zero_tail();
+    let mut rows = [zero; 17];
+    rows[0] = row;
+    TailRows { rows, count: 1 }
+}
+
+// All tops in turn, after the master's own row.
+fn take_tops(cache: Cache, mc_seqno: u32, first: TailIdsRow, tops: TopBlocks) -> TailWalk
+    ensures { λ r. ⌜ r ≡ pack-walk (fold (take-tail-id cache «mc_seqno» true) (first-state first) (each top-id (listed-tops tops))) ⌝ }
+{
+    let mut tails = one_row(first);
+    let zero = zero_id();
+    let mut ids = [zero; 258];
+    let mut count: usize = 0;
+    let items = tops.items;
+    let listed = tops.count;
+    let mut i: usize = 0;
+    while i < 8 {
+        if listed <= i {
+            return TailWalk { tails, ids, count };
+        }
+        let item = items[i];
+        let step = step_of(cache, mc_seqno, true, item.block_id);
+        tails = hold_given(tails, step);
+        let fresh = fresh_ids(ids, count, step.queued);
+        ids[count] = fresh.ids[0];
+        ids[count + 1] = fresh.ids[1];
+        count += fresh.count;
+        i += 1;
+    }
+    TailWalk { tails, ids, count }
+}
+
+// Then each id that was queued, first in, first out.
+fn take_queued(cache: Cache, mc_seqno: u32, walk: TailWalk) -> TailRows
+    requires { ⌜ (walk .count ≤ 256) × (walk ≡ pack-walk (walk-state walk)) ⌝ }
+    ensures { λ r. ⌜ r ≡ take-queued 256 cache «mc_seqno» 0 (walk-state walk) .tails ⌝ }
+{
+    let mut tails = walk.tails;
+    let mut ids = walk.ids;
+    let mut count = walk.count;
+    let mut j: usize = 0;
+    while j < count {
+        let id = ids[j];
+        let step = step_of(cache, mc_seqno, false, id);
+        tails = hold_given(tails, step);
+        let fresh = fresh_ids(ids, count, step.queued);
+        ids[count] = fresh.ids[0];
+        ids[count + 1] = fresh.ids[1];
+        count += fresh.count;
+        j += 1;
+    }
+    tails
+}
+
+// The rows of a master block.
+fn block_tails(cache: Cache, block: MasterBlock) -> TailRows
+    ensures { λ r. ⌜ r ≡ block-tails block cache ⌝ }
+{
+    let entry = block.entry;
+    let id = entry.block_id;
+    let prev_ids = entry.prev_ids;
+    let first = cached_row(id, prev_ids);
+    let walk = take_tops(cache, id.seqno, first, block.tops);
+    take_queued(cache, id.seqno, walk)
+}
+
+// An answer with no row beside it.
+fn no_tails(answer: TailAnswer) -> TailIds
+    ensures { λ r. ⌜ r ≡ no-tails answer ⌝ }
+{
+    let zero = zero_tail();
+    let tails = TailRows {
+        rows: [zero; 17],
+        count: 0,
+    };
+    TailIds { answer, tails }
+}
+
+// At or below the zerostate there is no row; else the master at that seqno is asked for, and its rows.
+fn read_tails(cache: Cache, seqno: u32) -> TailIds
+    ensures { λ r. ⌜ r ≡ read-tails seqno cache ⌝ }
+{
+    if seqno <= cache.zerostate_mc_seqno {
+        return no_tails(TailAnswer::Rows);
+    }
+    let masters = cache.masters;
+    let at = master_at(masters, seqno);
+    let found = at.found;
+    let Found::At(_) = found else {
+        return no_tails(TailAnswer::Refused(12));
+    };
+    let block = at.block;
+    let tails = block_tails(cache, block);
+    TailIds {
+        answer: TailAnswer::Rows,
+        tails,
+    }
+}
+
+pub fn read_before_tail_ids_of_mc_block(cache: Cache, short: BlockIdShort) -> TailIds
+    ensures { λ r. ⌜ (tail-outcome cache r ≡ call-on cache (unlent (read-tail-ids short))) × (r ≡ zeroed-tails r) ⌝ }
+{
+    if !sound_cache(cache) {
+        return no_tails(TailAnswer::Refused(1));
+    }
+    if !key_fits(short) {
+        return no_tails(TailAnswer::Refused(2));
+    }
+    read_tails(cache, short.seqno)
 }
