@@ -1,4 +1,4 @@
--- Tail rows and the ids that wait, in their arrays: the steps of the code; and on packed rows each function of the arrays is the rule, packed.
+-- Tail rows and the ids that wait, in their arrays: what the steps of the code make of them.
 -- Assumes nothing.
 use mathlib.Core.Bool.{Bool, _&&_, _||_, false, not, true}
 use mathlib.Core.List.{List, [], _++_, _∷_}

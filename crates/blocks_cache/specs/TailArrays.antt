@@ -1,5 +1,5 @@
 -- Document 01, Tail ids: the rows as they are held, and what the code does to them and to the ids that wait, for every input, sound or not.
--- On packed rows and a packed cache this is the rule, packed (proofs/TailArrayLaws, TailWalkLaws).
+-- On packed rows and a packed cache this is the rule, packed (proofs/TailReadLaws).
 -- Assumes nothing.
 use mathlib.Core.Bool.{Bool, _&&_, _||_, false, not, true}
 use mathlib.Core.List.{List, [], _++_, _∷_}
@@ -45,12 +45,15 @@ use Rattle.blocks_group.specs.GroupArrays.{answered-master, master-at}
 abbrev pub view-last : LastId → Option BlockId
 view-last l = pick (l .present) (some (l .id)) none
 
+-- a row as it is held: absent over zeros, zeros beyond the previous ids
 abbrev pub pack-tail : TailRow → TailIdsRow
 pack-tail t = record { shard = t .shard; id = pack-last (t .id); «prev_ids» = pack-prev-ids (t .previous) }
 
+-- what a row says
 abbrev pub view-tail : TailIdsRow → TailRow
 view-tail r = record { shard = r .shard; id = view-last (r .id); previous = listed-prev-ids (r .«prev_ids») }
 
+-- a row of zeros
 unfoldable pub zero-tail : TailIdsRow
 zero-tail = record { shard = zero-shard; id = pack-last none; «prev_ids» = zero-prev-ids }
 
@@ -58,6 +61,7 @@ zero-tail = record { shard = zero-shard; id = pack-last none; «prev_ids» = zer
 abbrev pub with-rows : List TailIdsRow → TailRows
 with-rows rs = record { rows = padded 17 zero-tail rs; count = length rs }
 
+-- the rows of the rules, packed
 abbrev pub pack-tails : List TailRow → TailRows
 pack-tails ts = with-rows (each pack-tail ts)
 
@@ -69,17 +73,21 @@ listed-tails t = take (t .count) (t .rows)
 abbrev pub listed-row-count : ℕ → ℕ
 listed-row-count n = pick (ltb n 17) n 17
 
+-- what the rows say
 abbrev pub view-tails : TailRows → List TailRow
 view-tails t = each view-tail (listed-tails t)
 
 -- ===== a row held =====
 
+-- rows come by rising shard
 abbrev pub row-before : TailIdsRow → TailIdsRow → Bool
 row-before a b = less-shard (a .shard) (b .shard)
 
+-- a row of a lower shard
 abbrev pub row-below : ShardIdent → TailIdsRow → Bool
 row-below s r = less-shard (r .shard) s
 
+-- a row of the shard
 abbrev pub row-at : ShardIdent → TailIdsRow → Bool
 row-at s r = same-shard (r .shard) s
 
@@ -99,10 +107,12 @@ put-row r t = pick (leb (length (put row-before r (listed-tails t))) 17) (with-r
 abbrev pub replaces-row : TailIdsRow → TailIdsRow → Bool
 replaces-row r h = not (h .id .present) || less-last (r .id) (h .id)
 
+-- by what stands at the place of the row's shard
 abbrev pub held-at : TailIdsRow → Place → TailRows → TailRows
 held-at r (place-at k) t = pick (replaces-row r (getD (t .rows) k zero-tail)) (put-row r t) t
 held-at r (place-vacant k) t = put-row r t
 
+-- the row held for its shard
 unfoldable pub hold-row : TailIdsRow → TailRows → TailRows
 hold-row r t = held-at r (row-place (r .shard) t) t
 
@@ -116,6 +126,7 @@ cached-row i ps = record { shard = id-shard i; id = pack-last (some i); «prev_i
 abbrev pub missing-row : BlockId → TailIdsRow
 missing-row i = record { shard = id-shard i; id = pack-last none; «prev_ids» = pack-prev-ids (i ∷ []) }
 
+-- nothing is given, nothing queued
 abbrev pub no-step : TailStep
 no-step = record { given = false; row = zero-tail; queued = zero-prev-ids }
 
@@ -133,11 +144,13 @@ tail-step m as-top i a = pick (eqb (i .seqno) 0) no-step (found-step m as-top i 
 unfoldable pub step-of : Cache → ℕ → Bool → BlockId → TailStep
 step-of c m as-top i = tail-step m as-top i (entry-under (key i) c)
 
+-- the row, where one is given
 abbrev pub hold-given : TailStep → TailRows → TailRows
 hold-given s t = pick (s .given) (hold-row (s .row) t) t
 
 -- ===== the ids that wait =====
 
+-- one id or the other, both or none
 abbrev pub two-ids : BlockId → Bool → BlockId → Bool → List BlockId
 two-ids a takes-a b takes-b = pick takes-a (a ∷ pick takes-b (b ∷ []) []) (pick takes-b (b ∷ []) [])
 
@@ -156,6 +169,7 @@ pub record TailState : Type 0 where
 abbrev pub pack-walk : TailState → TailWalk
 pack-walk w = record { tails = w .tails; ids = padded 258 zero-id (w .known); count = length (w .known) }
 
+-- what stands in the arrays
 abbrev pub walk-state : TailWalk → TailState
 walk-state w = record { tails = w .tails; known = take (w .count) (w .ids) }
 
@@ -167,6 +181,7 @@ first-state r = record { tails = with-rows (r ∷ []); known = [] }
 abbrev pub stepped : TailStep → TailState → TailState
 stepped s w = record { tails = hold-given s (w .tails); known = w .known ++ fresh-ids (w .known) (listed-prev-ids (s .queued)) }
 
+-- one id of the walk
 unfoldable pub take-tail-id : Cache → ℕ → Bool → TailState → BlockId → TailState
 take-tail-id c m as-top w i = stepped (step-of c m as-top i) w
 
@@ -188,6 +203,7 @@ block-tails b c =
 
 -- ===== what an answer says =====
 
+-- rows, or the number of the refusal
 abbrev pub tails-say : TailAnswer → TailRows → Answer
 tails-say tails-given t = tail-ids (view-tails t)
 tails-say (tails-refused n) t = refused n
@@ -201,14 +217,17 @@ abbrev pub zeroed-rows : TailAnswer → TailRows → TailRows
 zeroed-rows tails-given t = pack-tails (view-tails t)
 zeroed-rows (tails-refused n) t = with-rows []
 
+-- the same answer with zeros in what it does not use
 abbrev pub zeroed-tails : TailIds → TailIds
 zeroed-tails r = record { answer = r .answer; tails = zeroed-rows (r .answer) (r .tails) }
 
 -- ===== tail ids =====
 
+-- an answer with no row beside it
 abbrev pub no-tails : TailAnswer → TailIds
 no-tails a = record { answer = a; tails = with-rows [] }
 
+-- these rows
 abbrev pub given-tails : TailRows → TailIds
 given-tails t = record { answer = tails-given; tails = t }
 

@@ -103,8 +103,7 @@ loop-again c =
     let s = c .before .before .before .before .before .before .before .before .before .before .before .before in
     let n = long s in
     let l = c .before .before .before .before .before .before .before .loop-test .taken in
-    let next = tops-next (s .args .cache) (s .args .mc-seqno) (s .args .tops .items) (s .args .tops .count) _ (h .loop .i) (h .loop .tails) (h .loop .ids) (h .loop .count) (h .loop .inv .1) _ (omega arith) (c .before .before .before .before .before .before .if1 .left) _ (c .before .before .before .before .step-of .ensures) _ (c .before .before .before .hold-given .ensures) _ (c .before .before .fresh-ids .ensures) (two c) _ _ in
-    (omega arith, next)
+    (omega arith, tops-next (s .args .cache) (s .args .mc-seqno) (s .args .tops .items) (s .args .tops .count) _ (h .loop .i) (h .loop .tails) (h .loop .ids) (h .loop .count) (h .loop .inv .1) _ (omega arith) (c .before .before .before .before .before .before .if1 .left) _ (c .before .before .before .before .step-of .ensures) _ (c .before .before .before .hold-given .ensures) _ (c .before .before .fresh-ids .ensures) (two c) _ _)
 
 returns-2 : tie.Need-returns-2 Inv-loop μ-loop
 returns-2 c =
