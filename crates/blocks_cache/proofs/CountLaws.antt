@@ -162,7 +162,7 @@ previous-at-most p (e ∷ es) h =
     let f : fits-in p e ≡ true = and-left (fits-in p e) (all (fits-in p) es) h in
     omega (arith, ih, previous-two e (and-right (p (id-shard (e .id))) (entry-fits e) f))
 
-shards-previous : (gs : List ShardModel) → all shard-sound gs ≡ true → previous-cached gs ≤ 32 * length gs
+pub shards-previous : (gs : List ShardModel) → all shard-sound gs ≡ true → previous-cached gs ≤ 32 * length gs
 shards-previous [] h = omega arith
 shards-previous (x ∷ gs) h =
     let ih = shards-previous gs (and-right (shard-sound x) (all shard-sound gs) h) in

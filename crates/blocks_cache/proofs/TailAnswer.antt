@@ -24,7 +24,7 @@ use Rattle.blocks_cache.proofs.SoundLaws.{cached-fits, looked-up, looku
 use Rattle.blocks_cache.proofs.TailFifo.{fifo-unique}
 use Rattle.blocks_cache.proofs.TailKnown.{distinct-fits}
 use Rattle.blocks_cache.proofs.TailLevels.{Below, deep, deep-queued, flat-map-from, flat-map-member, highest-below, levels-fifo, levels-split, next-below, queued-deep}
-use Rattle.blocks_cache.proofs.TailOnce.{OnceInv, done-queued, once-ends, once-start, queued-done, times-inv}
+use Rattle.blocks_cache.proofs.TailOnce.{OnceInv, done-queued, known-fits, once-ends, once-start, queued-done, times-inv}
 use Rattle.blocks_cache.proofs.TailRows.{fold-append, fold-rising, same-ids-same-rows}
 use Rattle.blocks_cache.proofs.TailShards.{Within, fold-within, gives-shard, row-shard, rows-distinct}
 use Rattle.blocks_cache.specs.Calls.{TailRow}
@@ -111,10 +111,14 @@ module _ (m : Model) (ok : sound m ≡ true) (M : Entry) where
   inv : OnceInv gs mm ids₁ (all-previous gs) ids-in (queue-in gs mm false) (at-end .done) (at-end .queue)
   inv = times-inv gs mm ids₁ (all-previous gs) ids-in (queue-in gs mm false) (previous-cached gs) (once-begin gs M) (once-start gs mm ids₁ (all-previous gs) ids-in (queue-in gs mm false))
 
-  ended : at-end .queue ≡ []
+  pub ended : at-end .queue ≡ []
   ended =
       once-ends gs mm ids₁ (all-previous gs) ids-in (queue-in gs mm false) (previous-cached gs) (once-begin gs M) (once-start gs mm ids₁ (all-previous gs) ids-in (queue-in gs mm false))
       (omega (arith, length-all gs))
+
+  -- no more ids are taken than the cache holds previous ids
+  pub done-fits : length (at-end .done) ≤ previous-cached gs
+  done-fits = omega (arith, known-fits gs mm ids₁ (all-previous gs) ids-in (queue-in gs mm false) (at-end .done) (at-end .queue) inv, length-all gs)
 
   -- the literal walk's rows are what `levels` computes
   pub tails-fifo : Fifo gs mm (each (waits true) (top-ids M)) (levels (suc (highest (top-ids M))) gs mm true (top-ids M))

@@ -1,0 +1,13 @@
+-- Assumes nothing.
+use borrow.Author.Tests.{le-ltb, lt-ltb}
+use Rattle.blocks_cache.proofs.tail_ids.listed_row_count.Statement.{statement}
+use Rattle.blocks_cache.proofs.tail_ids.listed_row_count.Tie as tie
+
+returns : tie.Need-returns
+returns c = rw (lt-ltb _ _ (c .if1 .taken))
+
+returns-2 : tie.Need-returns-2
+returns-2 c = rw (le-ltb _ _ (c .if1 .left))
+
+pub listed-row-count-spec : {M : Type 1} → statement M
+listed-row-count-spec = tie.close (tie.spec returns returns-2)

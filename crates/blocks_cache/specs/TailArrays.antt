@@ -1,0 +1,241 @@
+-- Document 01, Tail ids: the rows as they are held, and what the code does to them and to the ids that wait, for every input, sound or not.
+-- On packed rows and a packed cache this is the rule, packed (proofs/TailReadLaws).
+-- Assumes nothing.
+use mathlib.Core.Bool.{Bool, _&&_, _||_, false, not, true}
+use mathlib.Core.List.{List, [], _++_, _∷_}
+use mathlib.Core.Option.{Option, none, some}
+use Prim.Native.Nat.{_+_, suc, zero, ℕ}
+use lib.Dec.{eqb, leb, ltb}
+use lib.ListN.{getD, length, take}
+use Rattle.block_records.specs.declared.block_id.BlockId.{BlockId}
+use Rattle.block_records.specs.declared.block_id.ShardIdent.{ShardIdent}
+use Rattle.block_records.specs.declared.entry.BlockCacheEntry.{BlockCacheEntry}
+use Rattle.block_records.specs.declared.entry.MasterBlock.{MasterBlock}
+use Rattle.block_records.specs.declared.store_records.PrevIds.{PrevIds}
+use Rattle.blocks_cache.specs.declared.cache.Cache.{Cache}
+use Rattle.blocks_cache.specs.declared.master_data.LastId.{LastId}
+use Rattle.blocks_cache.specs.declared.place.Place.{Place}
+use Rattle.blocks_cache.specs.declared.place.Place.the-variants.{At as place-at, Vacant as place-vacant}
+use Rattle.blocks_cache.specs.declared.tail_ids.TailAnswer.{TailAnswer}
+use Rattle.blocks_cache.specs.declared.tail_ids.TailAnswer.the-variants.{Refused as tails-refused, Rows as tails-given}
+use Rattle.blocks_cache.specs.declared.tail_ids.TailIds.{TailIds}
+use Rattle.blocks_cache.specs.declared.tail_ids.TailIdsRow.{TailIdsRow}
+use Rattle.blocks_cache.specs.declared.tail_ids.TailRows.{TailRows}
+use Rattle.blocks_cache.specs.declared.tail_ids.TailStep.{TailStep}
+use Rattle.blocks_cache.specs.declared.tail_ids.TailWalk.{TailWalk}
+use Rattle.blocks_group.specs.declared.group.EntryAt.{EntryAt}
+use Rattle.blocks_group.specs.declared.search.Found.{Found}
+use Rattle.blocks_group.specs.declared.search.Found.the-variants.{At as found-at, Vacant as vacant-at}
+use Rattle.block_records.specs.BlockIds.{id-shard, key, less-id, less-shard, listed-prev-ids, listed-tops, same-shard}
+use Rattle.block_records.specs.EntryLayout.{pack-prev-ids}
+use Rattle.block_records.specs.Lists.{each, fold, padded, pick, put}
+use Rattle.block_records.specs.Zeros.{zero-id, zero-prev-ids, zero-shard}
+use Rattle.blocks_cache.specs.CacheLayout.{HeldOutcome}
+use Rattle.blocks_cache.specs.Calls.{Answer, TailRow, refused, tail-ids}
+use Rattle.blocks_cache.specs.Extraction.{top-id}
+use Rattle.blocks_cache.specs.Lookups.{entry-under}
+use Rattle.blocks_cache.specs.MasterDataArrays.{pack-last}
+use Rattle.blocks_cache.specs.Places.{place}
+use Rattle.blocks_cache.specs.TailIdsOnce.{unknown-ids}
+use Rattle.blocks_group.specs.GroupArrays.{answered-master, master-at}
+
+-- ===== the rows =====
+
+-- an id or absent
+abbrev pub view-last : LastId → Option BlockId
+view-last l = pick (l .present) (some (l .id)) none
+
+-- a row as it is held: absent over zeros, zeros beyond the previous ids
+abbrev pub pack-tail : TailRow → TailIdsRow
+pack-tail t = record { shard = t .shard; id = pack-last (t .id); «prev_ids» = pack-prev-ids (t .previous) }
+
+-- what a row says
+abbrev pub view-tail : TailIdsRow → TailRow
+view-tail r = record { shard = r .shard; id = view-last (r .id); previous = listed-prev-ids (r .«prev_ids») }
+
+-- a row of zeros
+unfoldable pub zero-tail : TailIdsRow
+zero-tail = record { shard = zero-shard; id = pack-last none; «prev_ids» = zero-prev-ids }
+
+-- these rows, and zeros after them
+abbrev pub with-rows : List TailIdsRow → TailRows
+with-rows rs = record { rows = padded 17 zero-tail rs; count = length rs }
+
+-- the rows of the rules, packed
+abbrev pub pack-tails : List TailRow → TailRows
+pack-tails ts = with-rows (each pack-tail ts)
+
+-- the rows below the count; a count past the 17 places lists them all
+abbrev pub listed-tails : TailRows → List TailIdsRow
+listed-tails t = take (t .count) (t .rows)
+
+-- how many that are
+abbrev pub listed-row-count : ℕ → ℕ
+listed-row-count n = pick (ltb n 17) n 17
+
+-- what the rows say
+abbrev pub view-tails : TailRows → List TailRow
+view-tails t = each view-tail (listed-tails t)
+
+-- ===== a row held =====
+
+-- rows come by rising shard
+abbrev pub row-before : TailIdsRow → TailIdsRow → Bool
+row-before a b = less-shard (a .shard) (b .shard)
+
+-- a row of a lower shard
+abbrev pub row-below : ShardIdent → TailIdsRow → Bool
+row-below s r = less-shard (r .shard) s
+
+-- a row of the shard
+abbrev pub row-at : ShardIdent → TailIdsRow → Bool
+row-at s r = same-shard (r .shard) s
+
+-- where a shard's row stands, or the place where it would go in
+abbrev pub row-place : ShardIdent → TailRows → Place
+row-place s t = place (row-below s) (row-at s) (listed-tails t)
+
+-- absent being least
+abbrev pub less-last : LastId → LastId → Bool
+less-last a b = b .present && (not (a .present) || less-id (a .id) (b .id))
+
+-- the row put in by shard; one of the same shard is replaced; nothing changes where they would be more than 17
+abbrev pub put-row : TailIdsRow → TailRows → TailRows
+put-row r t = pick (leb (length (put row-before r (listed-tails t))) 17) (with-rows (put row-before r (listed-tails t))) t
+
+-- Per shard the pair held is replaced if its id is absent, or if the new id is less.
+abbrev pub replaces-row : TailIdsRow → TailIdsRow → Bool
+replaces-row r h = not (h .id .present) || less-last (r .id) (h .id)
+
+-- by what stands at the place of the row's shard
+abbrev pub held-at : TailIdsRow → Place → TailRows → TailRows
+held-at r (place-at k) t = pick (replaces-row r (getD (t .rows) k zero-tail)) (put-row r t) t
+held-at r (place-vacant k) t = put-row r t
+
+-- the row held for its shard
+unfoldable pub hold-row : TailIdsRow → TailRows → TailRows
+hold-row r t = held-at r (row-place (r .shard) t) t
+
+-- ===== what an id gives and queues =====
+
+-- (asked id, its previous ids)
+abbrev pub cached-row : BlockId → PrevIds → TailIdsRow
+cached-row i ps = record { shard = id-shard i; id = pack-last (some i); «prev_ids» = ps }
+
+-- (absent, itself)
+abbrev pub missing-row : BlockId → TailIdsRow
+missing-row i = record { shard = id-shard i; id = pack-last none; «prev_ids» = pack-prev-ids (i ∷ []) }
+
+-- nothing is given, nothing queued
+abbrev pub no-step : TailStep
+no-step = record { given = false; row = zero-tail; queued = zero-prev-ids }
+
+-- A cached block gives (asked id, its previous ids) if taken as a top or naming M, and queues them. A missing top gives (absent, itself).
+abbrev pub found-step : ℕ → Bool → BlockId → Found → BlockCacheEntry → TailStep
+found-step m as-top i (found-at k) e =
+    pick (as-top || eqb (e .«ref_by_mc_seqno») m) (record { given = true; row = cached-row i (e .«prev_ids»); queued = e .«prev_ids» }) no-step
+found-step m as-top i (vacant-at k) e = pick as-top (record { given = true; row = missing-row i; queued = zero-prev-ids }) no-step
+
+-- seqno 0 is skipped
+abbrev pub tail-step : ℕ → Bool → BlockId → EntryAt → TailStep
+tail-step m as-top i a = pick (eqb (i .seqno) 0) no-step (found-step m as-top i (a .found) (a .entry))
+
+-- in a cache
+unfoldable pub step-of : Cache → ℕ → Bool → BlockId → TailStep
+step-of c m as-top i = tail-step m as-top i (entry-under (key i) c)
+
+-- the row, where one is given
+abbrev pub hold-given : TailStep → TailRows → TailRows
+hold-given s t = pick (s .given) (hold-row (s .row) t) t
+
+-- ===== the ids that wait =====
+
+-- one id or the other, both or none
+abbrev pub two-ids : BlockId → Bool → BlockId → Bool → List BlockId
+two-ids a takes-a b takes-b = pick takes-a (a ∷ pick takes-b (b ∷ []) []) (pick takes-b (b ∷ []) [])
+
+-- those that are not known yet, each once; none where 256 places would not hold them
+unfoldable pub fresh-ids : List BlockId → List BlockId → List BlockId
+fresh-ids known ps = pick (leb (length known + length (unknown-ids known ps)) 256) (unknown-ids known ps) []
+
+-- ===== the walk =====
+
+-- the rows so far, and all ids that were queued, each once
+pub record TailState : Type 0 where
+  pub tails : TailRows
+  pub known : List BlockId
+
+-- the ids first, zeros after them
+abbrev pub pack-walk : TailState → TailWalk
+pack-walk w = record { tails = w .tails; ids = padded 258 zero-id (w .known); count = length (w .known) }
+
+-- what stands in the arrays
+abbrev pub walk-state : TailWalk → TailState
+walk-state w = record { tails = w .tails; known = take (w .count) (w .ids) }
+
+-- before the first id: the master's own row
+abbrev pub first-state : TailIdsRow → TailState
+first-state r = record { tails = with-rows (r ∷ []); known = [] }
+
+-- a row given is held, and those of the previous ids that are not known are queued
+abbrev pub stepped : TailStep → TailState → TailState
+stepped s w = record { tails = hold-given s (w .tails); known = w .known ++ fresh-ids (w .known) (listed-prev-ids (s .queued)) }
+
+-- one id of the walk
+unfoldable pub take-tail-id : Cache → ℕ → Bool → TailState → BlockId → TailState
+take-tail-id c m as-top w i = stepped (step-of c m as-top i) w
+
+-- the id at place j of the queue, if one stands there
+abbrev pub take-queued-at : Cache → ℕ → ℕ → TailState → TailState
+take-queued-at c m j w = pick (ltb j (length (w .known))) (take-tail-id c m false w (getD (w .known) j zero-id)) w
+
+-- first in, first out: those at so many places from place j on
+unfoldable pub take-queued : ℕ → Cache → ℕ → ℕ → TailState → TailState
+take-queued zero c m j w = w
+take-queued (suc k) c m j w = take-queued k c m (j + 1) (take-queued-at c m j w)
+
+-- (id, previous ids) of the master, then all tops in turn, and then each id queued once
+unfoldable pub block-tails : MasterBlock → Cache → TailRows
+block-tails b c =
+    take-queued 256 c (b .entry .«block_id» .seqno) 0
+    (fold (take-tail-id c (b .entry .«block_id» .seqno) true) (first-state (cached-row (b .entry .«block_id») (b .entry .«prev_ids»)))
+    (each top-id (listed-tops (b .tops)))) .tails
+
+-- ===== what an answer says =====
+
+-- rows, or the number of the refusal
+abbrev pub tails-say : TailAnswer → TailRows → Answer
+tails-say tails-given t = tail-ids (view-tails t)
+tails-say (tails-refused n) t = refused n
+
+-- the cache is left as it was given; no slice is lent
+abbrev pub tail-outcome : Cache → TailIds → HeldOutcome
+tail-outcome c r = record { cache = c; answer = tails-say (r .answer) (r .tails); slice = [] }
+
+-- the rows with zeros in what they do not use; none beside a refusal
+abbrev pub zeroed-rows : TailAnswer → TailRows → TailRows
+zeroed-rows tails-given t = pack-tails (view-tails t)
+zeroed-rows (tails-refused n) t = with-rows []
+
+-- the same answer with zeros in what it does not use
+abbrev pub zeroed-tails : TailIds → TailIds
+zeroed-tails r = record { answer = r .answer; tails = zeroed-rows (r .answer) (r .tails) }
+
+-- ===== tail ids =====
+
+-- an answer with no row beside it
+abbrev pub no-tails : TailAnswer → TailIds
+no-tails a = record { answer = a; tails = with-rows [] }
+
+-- these rows
+abbrev pub given-tails : TailRows → TailIds
+given-tails t = record { answer = tails-given; tails = t }
+
+-- 12. Tail ids above the zerostate: is the master entry cached?
+abbrev pub tails-at : Option MasterBlock → Cache → TailIds
+tails-at none c = no-tails (tails-refused 12)
+tails-at (some b) c = given-tails (block-tails b c)
+
+-- seqno ≤ zerostate, empty
+unfoldable pub read-tails : ℕ → Cache → TailIds
+read-tails n c = pick (leb n (c .«zerostate_mc_seqno»)) (no-tails tails-given) (tails-at (answered-master (master-at n (c .masters))) c)
