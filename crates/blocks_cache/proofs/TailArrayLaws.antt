@@ -31,8 +31,7 @@ use Rattle.block_records.specs.EntryLayout.{pack-prev-ids}
 use Rattle.block_records.specs.Lists.{padded, pick}
 use Rattle.block_records.specs.Zeros.{zero-prev-ids}
 use Rattle.blocks_cache.proofs.PlaceLaws.{at-within, inserted-few, inserted-many, inserts, put-inserts, put-replaces, replaced-few, replaces, vacant-within}
-use Rattle.blocks_cache.specs.CacheStores.{held-at}
-use Rattle.blocks_cache.specs.TailArrays.{cached-row, found-step, fresh-ids, hold-row, less-last, listed-tails, missing-row, no-step, put-row, replaces-row, row-at, row-before, row-below, row-place, tail-step, two-ids, with-rows, zero-tail}
+use Rattle.blocks_cache.specs.TailArrays.{cached-row, found-step, fresh-ids, hold-row, less-last, listed-tails, missing-row, no-step, put-row, replaces-row, row-at, row-before, row-below, row-held-at, row-place, tail-step, two-ids, with-rows, zero-tail}
 use Rattle.blocks_cache.specs.TailIdsOnce.{knows, unknown-ids}
 
 -- the first where the test holds, else the second
@@ -118,9 +117,9 @@ module _ (t : TailRows) (long : length (t .rows) ≡ 17) (r : TailIdsRow) (k : �
           ap (replaces-row r) (getD-any (t .rows) k zero-tail d (omega (arith, row-listed, long)))
           ∙ ap (λ (x : Bool). not (getD (t .rows) k d .id .present) || x) (sym is-less) ∙ h
 
-      held-placed : held-at r (place-at k) t ≡ hold-row r t
+      held-placed : row-held-at r (place-at k) t ≡ hold-row r t
       unfolding hold-row
-      held-placed = ap (λ (p : Place). held-at r p t) (sym e)
+      held-placed = ap (λ (p : Place). row-held-at r p t) (sym e)
 
       pub hold-replaces : not (getD (t .rows) k d .id .present) || less ≡ true → (x : TailRows) → x ≡ with-rows (spliced k (k + 1) r (listed-tails t)) → x ≡ hold-row r t
       hold-replaces h x q = q ∙ put-replaced ∙ picked (replaces-row r (getD (t .rows) k zero-tail)) (put-row r t) t (held-test true h) ∙ held-placed
@@ -137,7 +136,7 @@ module _ (t : TailRows) (long : length (t .rows) ≡ 17) (r : TailIdsRow) (k : �
 
     vacant-placed : put-row r t ≡ hold-row r t
     unfolding hold-row
-    vacant-placed = ap (λ (p : Place). held-at r p t) (sym e)
+    vacant-placed = ap (λ (p : Place). row-held-at r p t) (sym e)
 
     pub hold-inserts : t .count < 17 → (x : TailRows) → x ≡ with-rows (spliced k k r (listed-tails t)) → x ≡ hold-row r t
     hold-inserts h x q =

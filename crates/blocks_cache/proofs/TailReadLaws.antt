@@ -53,17 +53,16 @@ use Rattle.blocks_cache.proofs.TailLevels.{flat-map-append}
 use Rattle.blocks_cache.proofs.TailRows.{fold-append, fold-rising}
 use Rattle.blocks_cache.proofs.TailWalkLaws.{queue-passed}
 use Rattle.blocks_cache.specs.CacheLayout.{call-on, pack, pack-outcome, sound-cache, view}
-use Rattle.blocks_cache.specs.CacheStores.{held-at, view-last}
 use Rattle.blocks_cache.specs.Calls.{Call, Effect, TailRow, done, read-tail-ids, refused, tail-ids, unlent}
 use Rattle.blocks_cache.specs.CaseCalls.{slice}
 use Rattle.blocks_cache.specs.Effects.{answered, effect, outcome-of, plain, tail-ids-entry}
 use Rattle.blocks_cache.specs.Extraction.{previous-cached, top-id}
 use Rattle.blocks_cache.specs.Lookups.{entry-under}
-use Rattle.blocks_cache.specs.MasterDataArrays.{pack-last}
+use Rattle.blocks_cache.specs.MasterDataArrays.{pack-last, view-last}
 use Rattle.blocks_cache.specs.Model.{Model, ShardModel, lookup}
 use Rattle.blocks_cache.specs.Places.{place}
 use Rattle.blocks_cache.specs.Refusals.{further, sound}
-use Rattle.blocks_cache.specs.TailArrays.{TailState, block-tails, cached-row, found-step, fresh-ids, given-tails, hold-given, hold-row, less-last, listed-tails, missing-row, no-step, no-tails, pack-tail, pack-tails, put-row, read-tails, replaces-row, row-at, row-before, row-below, row-place, step-of, tail-outcome, tails-at, take-queued, take-tail-id, view-tail, view-tails, zero-tail, zeroed-tails}
+use Rattle.blocks_cache.specs.TailArrays.{TailState, block-tails, cached-row, found-step, fresh-ids, given-tails, hold-given, hold-row, less-last, listed-tails, missing-row, no-step, no-tails, pack-tail, pack-tails, put-row, read-tails, replaces-row, row-at, row-before, row-below, row-held-at, row-place, step-of, tail-outcome, tails-at, take-queued, take-tail-id, view-tail, view-tails, zero-tail, zeroed-tails}
 use Rattle.blocks_cache.specs.TailIds.{first-row, found-gives, found-queues, gives, held, hold, less-option, queues, tail-before, tails-of, top-ids}
 use Rattle.blocks_cache.specs.TailIdsOnce.{OnceWalk, knows, once-begin, once-id, once-one, once-times, unknown-ids}
 use Rattle.blocks_group.proofs.GroupArrayLaws.{master-at-packed}
@@ -136,7 +135,7 @@ row-packed-at rows k d h =
     ∙ getD-each pack-tail rows k d
 
 module _ (rows : List TailRow) (t : TailRow) (rises : rising tail-before rows ≡ true) (few : length (hold rows t) ≤ 17) where
-  hold-by : (p : Place) → row-place (t .shard) (pack-tails rows) ≡ p → held-at (pack-tail t) p (pack-tails rows) ≡ pack-tails (hold rows t)
+  hold-by : (p : Place) → row-place (t .shard) (pack-tails rows) ≡ p → row-held-at (pack-tail t) p (pack-tails rows) ≡ pack-tails (hold rows t)
   hold-by (place-vacant k) e =
       let f : find (row-of (t .shard)) rows ≡ none = find-packed (t .shard) rows rises t ∙ ap (λ (p : Place). at-place (row-under (t .shard)) (row-of (t .shard)) t p rows) e in
       let q : hold rows t ≡ put tail-before t rows = ap (λ (o : Option TailRow). held t o rows) f in

@@ -83,13 +83,13 @@ put-at s t (x ∷ rows) =
     (λ b. let e : x .shard ≡ t .shard = sym (shard-level (t .shard) (x .shard) a b) in
     rw b (on (same-shard (t .shard) s) (λ d. rw d) (λ d. let c : same-shard (x .shard) s ≡ false = rw e d in rw (d, c))))))
 
-held-at : (s : ShardIdent) (t : TailRow) (rows : List TailRow) (o : Option TailRow) → at-shard (t .shard) rows ≡ o → at-shard s (held t o rows) ≡ better-at s (at-shard s rows) t
-held-at s t rows none h =
+row-held-at : (s : ShardIdent) (t : TailRow) (rows : List TailRow) (o : Option TailRow) → at-shard (t .shard) rows ≡ o → at-shard s (held t o rows) ≡ better-at s (at-shard s rows) t
+row-held-at s t rows none h =
     put-at s t rows
     ∙ on (same-shard (t .shard) s)
     (λ d. let e : at-shard s rows ≡ none = subst (λ (z : ShardIdent). at-shard z rows ≡ none) (same-shard-true (t .shard) s d) h in rw (d, e))
     (λ d. rw d)
-held-at s t rows (some x) h =
+row-held-at s t rows (some x) h =
     on (not (present (x .id)) || less-option (t .id) (x .id))
     (λ c. on (same-shard (t .shard) s)
     (λ d. let e : at-shard s rows ≡ some x = subst (λ (z : ShardIdent). at-shard z rows ≡ some x) (same-shard-true (t .shard) s d) h in rw c (put-at s t rows ∙ rw (d, e, better, c)))
@@ -99,7 +99,7 @@ held-at s t rows (some x) h =
     (λ d. rw (c, d)))
 
 hold-at : (s : ShardIdent) (rows : List TailRow) (t : TailRow) → at-shard s (hold rows t) ≡ better-at s (at-shard s rows) t
-hold-at s rows t = held-at s t rows (at-shard (t .shard) rows) refl
+hold-at s rows t = row-held-at s t rows (at-shard (t .shard) rows) refl
 
 fold-at : (s : ShardIdent) (ts rows : List TailRow) → at-shard s (fold hold rows ts) ≡ fold (better-at s) (at-shard s rows) ts
 fold-at s [] rows = refl

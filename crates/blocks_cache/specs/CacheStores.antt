@@ -3,7 +3,7 @@
 -- Assumes nothing.
 use mathlib.Core.Bool.{Bool, true}
 use mathlib.Core.List.{List, []}
-use mathlib.Core.Option.{Option, none, some}
+use mathlib.Core.Option.{none}
 use Prim.Native.Nat.{ℕ}
 use lib.Dec.{leb, ltb}
 use lib.ListN.{getD}
@@ -28,17 +28,13 @@ use Rattle.block_records.specs.BlockIds.{id-shard, is-masterchain, same-id}
 use Rattle.block_records.specs.Lists.{pick}
 use Rattle.blocks_cache.specs.CacheLayout.{HeldOutcome, pack-range, view-range, zero-shard-group}
 use Rattle.blocks_cache.specs.Calls.{Answer, refused, stored, synced}
-use Rattle.blocks_cache.specs.MasterDataArrays.{drop-ids-from, has-place-for-id, highest-id, pack-last, put-id}
+use Rattle.blocks_cache.specs.MasterDataArrays.{drop-ids-from, has-place-for-id, highest-id, pack-last, put-id, view-last}
 use Rattle.blocks_cache.specs.Model.{moved-end, moved-start}
 use Rattle.blocks_cache.specs.ShardArrays.{put-shard, shard-place}
 use Rattle.blocks_group.specs.GroupLayout.{zero-group}
 use Rattle.blocks_group.specs.GroupStores.{store-collated-block, store-collated-master, store-received-block, store-received-master}
 
 -- ===== the answer =====
-
--- an id, or none
-abbrev pub view-last : LastId → Option BlockId
-view-last l = pick (l .present) (some (l .id)) none
 
 -- Each store answers with the two flags, the highest last collated id and the range; Synced; or a question's number.
 abbrev pub store-says : StoreAnswer → LastId → AppliedRange → Answer

@@ -67,6 +67,10 @@ abbrev pub pack-last : Option BlockId → LastId
 pack-last none = record { present = false; id = zero-id }
 pack-last (some i) = record { present = true; id = i }
 
+-- an id, or none
+abbrev pub view-last : LastId → Option BlockId
+view-last l = pick (l .present) (some (l .id)) none
+
 -- the highest last collated id: the last that is listed
 abbrev pub highest-id : MasterData → LastId
 highest-id d = pack-last (last (listed-ids d))

@@ -34,16 +34,12 @@ use Rattle.blocks_cache.specs.CacheLayout.{HeldOutcome}
 use Rattle.blocks_cache.specs.Calls.{Answer, TailRow, refused, tail-ids}
 use Rattle.blocks_cache.specs.Extraction.{top-id}
 use Rattle.blocks_cache.specs.Lookups.{entry-under}
-use Rattle.blocks_cache.specs.MasterDataArrays.{pack-last}
+use Rattle.blocks_cache.specs.MasterDataArrays.{pack-last, view-last}
 use Rattle.blocks_cache.specs.Places.{place}
 use Rattle.blocks_cache.specs.TailIdsOnce.{unknown-ids}
 use Rattle.blocks_group.specs.GroupArrays.{answered-master, master-at}
 
 -- ===== the rows =====
-
--- an id or absent
-abbrev pub view-last : LastId → Option BlockId
-view-last l = pick (l .present) (some (l .id)) none
 
 -- a row as it is held: absent over zeros, zeros beyond the previous ids
 abbrev pub pack-tail : TailRow → TailIdsRow
@@ -108,13 +104,13 @@ abbrev pub replaces-row : TailIdsRow → TailIdsRow → Bool
 replaces-row r h = not (h .id .present) || less-last (r .id) (h .id)
 
 -- by what stands at the place of the row's shard
-abbrev pub held-at : TailIdsRow → Place → TailRows → TailRows
-held-at r (place-at k) t = pick (replaces-row r (getD (t .rows) k zero-tail)) (put-row r t) t
-held-at r (place-vacant k) t = put-row r t
+abbrev pub row-held-at : TailIdsRow → Place → TailRows → TailRows
+row-held-at r (place-at k) t = pick (replaces-row r (getD (t .rows) k zero-tail)) (put-row r t) t
+row-held-at r (place-vacant k) t = put-row r t
 
 -- the row held for its shard
 unfoldable pub hold-row : TailIdsRow → TailRows → TailRows
-hold-row r t = held-at r (row-place (r .shard) t) t
+hold-row r t = row-held-at r (row-place (r .shard) t) t
 
 -- ===== what an id gives and queues =====
 
