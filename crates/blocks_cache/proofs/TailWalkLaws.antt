@@ -117,9 +117,6 @@ module _ (c : Cache) (m : ℕ) (as-top : Bool) (tails : TailRows) (ids : List Bl
       let k : take count ids ≡ w .known = ap (take count) (w .places) ∙ ap (λ (n : ℕ). take n (padded 258 zero-id (w .known))) (w .number) ∙ take-padded 258 zero-id (w .known) in
       of-fresh ∙ ap (λ (xs : List BlockId). pack-prev-ids (fresh-ids xs (listed-prev-ids (s .queued)))) k
 
-  abbrev written : List BlockId
-  written = set (set ids count (getD (fresh .ids) 0 d)) (count + 1) (getD (fresh .ids) 1 e)
-
   pub waits-more : Waits (set (set ids count (getD (fresh .ids) 0 d)) (count + 1) (getD (fresh .ids) 1 e)) (count + fresh .count)
   waits-more =
       let f : fresh .ids ≡ padded 2 zero-id new-ids = ap (λ (p : PrevIds). p .ids) fresh-is in
