@@ -1,14 +1,13 @@
 // Document 01, Whole cache: blocks go to the front of a lent slice of records; the rest is untouched.
 ghost use mathlib.Core.Path.{_≡_};
-ghost use Prim.Native.Nat.{_+_, _≤_};
-ghost use lib.ListN.{length};
+ghost use Prim.Native.Nat.{_+_, _≤_, min};
+ghost use lib.ListN.{drop, length, take};
 ghost use Rattle.blocks_cache.specs.LentSlices.{filled-at};
 ghost use Rattle.blocks_cache.specs.Subgraphs.{extract-on, extract-outcome, zeroed-extract};
 ghost use Rattle.blocks_cache.specs.CacheLayout.{call-on};
 ghost use Rattle.blocks_cache.specs.Calls.{pop, sync};
 use crate::cache::Cache;
 use crate::extraction::ExtractRequest;
-use crate::extraction::PlainExtract;
 use crate::extraction::SubgraphExtract;
 use crate::extraction::extract_plain;
 use block_records::block_id::BlockId;
@@ -62,13 +61,34 @@ pub fn extract_mc_block_subgraph_for_sync(
     extract_mc_block_subgraph(cache, request, out)
 }
 
-// Pop for callers that can't lend a slice of records: it is lent from a local array.
-pub fn pop_to_array(cache: Cache, from: u32, blocks: [BlockCacheEntry; 128]) -> PlainExtract
-    ensures { λ r. ⌜ (extract-outcome (r .extract) (r .blocks) ≡ call-on cache (record { request = pop from; lent = blocks })) × (r .extract ≡ zeroed-extract (r .extract)) ⌝ }
+pub struct ArrayExtract {
+    pub extract: SubgraphExtract,
+    pub blocks: [BlockCacheEntry; 160],
+}
+
+// How many places of an array are lent: all of them where fewer are there than asked for.
+pub(crate) fn lent_places(lent: usize) -> usize
+    ensures { λ r. ⌜ r ≡ min lent 160 ⌝ }
+{
+    if lent < 160 {
+        return lent;
+    }
+    160
+}
+
+// Pop for callers that can't lend a slice of records: a local array's first places are lent, and the rest stays.
+pub fn pop_to_array(
+    cache: Cache,
+    from: u32,
+    blocks: [BlockCacheEntry; 160],
+    lent: usize,
+) -> ArrayExtract
+    ensures { λ r. ⌜ (extract-outcome (r .extract) (take (min lent 160) (r .blocks)) ≡ call-on cache (record { request = pop from; lent = take (min lent 160) blocks })) × ((drop (min lent 160) (r .blocks) ≡ drop (min lent 160) blocks) × (r .extract ≡ zeroed-extract (r .extract))) ⌝ }
 {
     let mut out = blocks;
-    let extract = pop_front_applied_mc_block_subgraph(cache, from, &mut out[..]);
-    PlainExtract {
+    let n = lent_places(lent);
+    let extract = pop_front_applied_mc_block_subgraph(cache, from, &mut out[..n]);
+    ArrayExtract {
         extract,
         blocks: out,
     }
@@ -78,13 +98,15 @@ pub fn pop_to_array(cache: Cache, from: u32, blocks: [BlockCacheEntry; 128]) -> 
 pub fn sync_to_array(
     cache: Cache,
     block_id: BlockId,
-    blocks: [BlockCacheEntry; 128],
-) -> PlainExtract
-    ensures { λ r. ⌜ (extract-outcome (r .extract) (r .blocks) ≡ call-on cache (record { request = sync «block_id»; lent = blocks })) × (r .extract ≡ zeroed-extract (r .extract)) ⌝ }
+    blocks: [BlockCacheEntry; 160],
+    lent: usize,
+) -> ArrayExtract
+    ensures { λ r. ⌜ (extract-outcome (r .extract) (take (min lent 160) (r .blocks)) ≡ call-on cache (record { request = sync «block_id»; lent = take (min lent 160) blocks })) × ((drop (min lent 160) (r .blocks) ≡ drop (min lent 160) blocks) × (r .extract ≡ zeroed-extract (r .extract))) ⌝ }
 {
     let mut out = blocks;
-    let extract = extract_mc_block_subgraph_for_sync(cache, block_id, &mut out[..]);
-    PlainExtract {
+    let n = lent_places(lent);
+    let extract = extract_mc_block_subgraph_for_sync(cache, block_id, &mut out[..n]);
+    ArrayExtract {
         extract,
         blocks: out,
     }

@@ -13,7 +13,7 @@ use block_records::top_block::zero_top;
 use block_records::top_block::zero_tops;
 use blocks_cache::cache::Cache;
 use blocks_cache::cache::empty;
-use blocks_cache::extraction::PlainExtract;
+use blocks_cache::lent::ArrayExtract;
 use blocks_cache::lent::pop_to_array;
 use blocks_cache::lent::sync_to_array;
 use blocks_cache::stores::BlockCacheStoreResult;
@@ -141,12 +141,12 @@ pub fn receive_alone(cache: Cache, id: BlockId) -> BlockCacheStoreResult {
 }
 
 // With a slice of 128 places.
-pub fn pop(cache: Cache, from: u32) -> PlainExtract {
+pub fn pop(cache: Cache, from: u32) -> ArrayExtract {
     let zero = zero_entry();
-    pop_to_array(cache, from, [zero; 128])
+    pop_to_array(cache, from, [zero; 160], 128)
 }
 
-pub fn sync(cache: Cache, id: BlockId) -> PlainExtract {
+pub fn sync(cache: Cache, id: BlockId) -> ArrayExtract {
     let zero = zero_entry();
-    sync_to_array(cache, id, [zero; 128])
+    sync_to_array(cache, id, [zero; 160], 128)
 }

@@ -4,7 +4,7 @@ use block_records::block_id::same_id;
 use block_records::entry::BlockCacheEntryData;
 use blocks_cache::cache::Cache;
 use blocks_cache::extraction::ExtractAnswer;
-use blocks_cache::extraction::PlainExtract;
+use blocks_cache::lent::ArrayExtract;
 use blocks_cache::master_data::AppliedRange;
 use blocks_cache::stores::BlockCacheStoreResult;
 use blocks_group::mark::Mark;
@@ -57,7 +57,7 @@ pub fn no_last(r: BlockCacheStoreResult) -> bool {
 
 // A pop that hands out M with these two numbers, and says whether it was the last.
 pub fn popped(
-    r: PlainExtract,
+    r: ArrayExtract,
     master: BlockId,
     joined: usize,
     taken: usize,
@@ -73,7 +73,7 @@ pub fn popped(
     (last == is_last) & (same & ((extract.joined == joined) & (extract.taken == taken)))
 }
 
-pub fn pop_refused(r: PlainExtract, number: u32) -> bool {
+pub fn pop_refused(r: ArrayExtract, number: u32) -> bool {
     let extract = r.extract;
     let answer = extract.answer;
     let ExtractAnswer::Refused(n) = answer else {
@@ -82,7 +82,7 @@ pub fn pop_refused(r: PlainExtract, number: u32) -> bool {
     n == number
 }
 
-pub fn already_extracted(r: PlainExtract) -> bool {
+pub fn already_extracted(r: ArrayExtract) -> bool {
     let extract = r.extract;
     let answer = extract.answer;
     match answer {
@@ -260,7 +260,7 @@ pub fn shard_blocks(cache: Cache, groups: usize, blocks: usize) -> bool {
 }
 
 // The first two blocks that were handed out; the first four.
-pub fn two_out(r: PlainExtract, a: BlockId, b: BlockId) -> bool {
+pub fn two_out(r: ArrayExtract, a: BlockId, b: BlockId) -> bool {
     let first = r.blocks[0];
     let second = r.blocks[1];
     let x = same_id(first.block_id, a);
@@ -268,7 +268,7 @@ pub fn two_out(r: PlainExtract, a: BlockId, b: BlockId) -> bool {
     x & y
 }
 
-pub fn four_out(r: PlainExtract, a: BlockId, b: BlockId, c: BlockId, d: BlockId) -> bool {
+pub fn four_out(r: ArrayExtract, a: BlockId, b: BlockId, c: BlockId, d: BlockId) -> bool {
     let front = two_out(r, a, b);
     let third = r.blocks[2];
     let fourth = r.blocks[3];
