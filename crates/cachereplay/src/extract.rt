@@ -1,0 +1,92 @@
+// Pop and sync extraction on the slice that is lent, and their answers.
+use crate::answers::Cursor;
+use crate::answers::put_bad;
+use crate::answers::put_extract;
+use crate::expected;
+use crate::read::read_id;
+use crate::read::read_u32;
+use crate::scan::Scan;
+use crate::scan::expect_end;
+use crate::scan::is_good;
+use block_records::block_id::BlockId;
+use block_records::entry::BlockCacheEntry;
+use blocks_cache::cache::Cache;
+use blocks_cache::lent::ArrayExtract;
+use blocks_cache::lent::pop_to_array;
+use blocks_cache::lent::sync_to_array;
+
+// The places that can be lent, and how many are.
+pub struct Lent {
+    pub blocks: [BlockCacheEntry; 160],
+    pub places: usize,
+}
+
+// The cache and the slice after a line, and where the next byte goes.
+pub struct Extracted {
+    pub cache: Cache,
+    pub blocks: [BlockCacheEntry; 160],
+    pub at: usize,
+}
+
+fn not_extracted(cache: Cache, lent: Lent, at: usize) -> Extracted {
+    let blocks = lent.blocks;
+    Extracted { cache, blocks, at }
+}
+
+fn answered(result: ArrayExtract, out: &mut [u8], at: usize) -> Extracted {
+    let blocks = result.blocks;
+    let next = put_extract(out, at, result.extract, blocks);
+    let extract = result.extract;
+    let cache = extract.cache;
+    Extracted {
+        cache,
+        blocks,
+        at: next,
+    }
+}
+
+fn pop(cache: Cache, lent: Lent, from: u32, out: &mut [u8], at: usize) -> Extracted {
+    let blocks = lent.blocks;
+    let result = pop_to_array(cache, from, blocks, lent.places);
+    answered(result, out, at)
+}
+
+pub fn run_pop(
+    cache: Cache,
+    lent: Lent,
+    line: &[u8],
+    start: Scan,
+    out: &mut [u8],
+    cursor: Cursor,
+) -> Extracted {
+    let read = read_u32(line, start);
+    let end = expect_end(line, read.scan, expected::END);
+    if !is_good(end) {
+        let at = put_bad(out, cursor, end);
+        return not_extracted(cache, lent, at);
+    }
+    pop(cache, lent, read.value, out, cursor.at)
+}
+
+fn sync(cache: Cache, lent: Lent, id: BlockId, out: &mut [u8], at: usize) -> Extracted {
+    let blocks = lent.blocks;
+    let result = sync_to_array(cache, id, blocks, lent.places);
+    answered(result, out, at)
+}
+
+pub fn run_sync(
+    cache: Cache,
+    lent: Lent,
+    line: &[u8],
+    start: Scan,
+    out: &mut [u8],
+    cursor: Cursor,
+) -> Extracted {
+    let read = read_id(line, start);
+    let end = expect_end(line, read.scan, expected::END);
+    if !is_good(end) {
+        let at = put_bad(out, cursor, end);
+        return not_extracted(cache, lent, at);
+    }
+    sync(cache, lent, read.id, out, cursor.at)
+}
