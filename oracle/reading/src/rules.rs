@@ -425,9 +425,7 @@ impl Rules {
 
     /// "entries below the boundary go; for each master removed at s, ids below s go"
     fn collect(&self, cache: &mut Cache) -> Answer {
-        let goes = |boundary: Option<Key>, seqno: u32| {
-            boundary.is_some_and(|k| seqno < k.seqno || self.is(Wrong::CollectInclusive) && seqno == k.seqno)
-        };
+        let goes = |boundary: Option<Key>, seqno: u32| boundary.is_some_and(|k| seqno < k.seqno || self.is(Wrong::CollectInclusive) && seqno == k.seqno);
         let boundary = cache.masters.boundary;
         let removed: Vec<u32> = cache.masters.entries.extract_if(.., |e| goes(boundary, e.seqno())).map(|e| e.seqno()).collect();
         for s in removed {

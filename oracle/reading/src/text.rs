@@ -152,15 +152,15 @@ fn view_row(o: &mut Out, r: &ViewRow) {
 /// An answer, with its line ends.
 pub fn answer(o: &mut Out, a: &Answer) {
     match a {
-        Answer::Refused(n) => put!(o, "refused ", num *n, "\n"),
+        Answer::Refused(n) => put!(o, "refused ", num * n, "\n"),
         Answer::Made => put!(o, "made\n"),
         Answer::Stored { received_and_collated, mismatch, last, range: r } => {
-            put!(o, "stored received_and_collated=", flag *received_and_collated, " mismatch=", flag *mismatch);
+            put!(o, "stored received_and_collated=", flag * received_and_collated, " mismatch=", flag * mismatch);
             put!(o, " last=", opt_id last.as_ref(), " range=", range *r, "\n");
         }
         Answer::Synced => put!(o, "synced\n"),
         Answer::NoChange => put!(o, "no change\n"),
-        Answer::Changed(s) => put!(o, "status ", status *s, "\n"),
+        Answer::Changed(s) => put!(o, "status ", status * s, "\n"),
         Answer::Popped { last, extracted: x } => put!(o, "extracted last=", flag *last, " ", extracted x),
         Answer::Extracted(x) => put!(o, "extracted ", extracted x),
         Answer::AlreadyExtracted => put!(o, "already extracted\n"),
@@ -209,26 +209,26 @@ pub fn dump(o: &mut Out, c: &Cache) {
 /// A request, as the line that makes it.
 pub fn request(o: &mut Out, r: &Request) {
     match r {
-        Request::New(z) => put!(o, "new ", num *z),
+        Request::New(z) => put!(o, "new ", num * z),
         Request::StoreCollated(c) => {
             put!(o, "store_collated ", id &c.id, " ref=", num c.reference, " prev=", ids &c.prev, " top=", tops &c.tops);
             put!(o, " anchor=", opt c.anchor, " pta=", num c.processed_to, " pay=", num c.payload);
         }
         Request::StoreReceived(r) => {
-            put!(o, "store_received ", id &r.id, " mc=", id &r.reference, " prev=", ids &r.prev, " top=", tops &r.tops);
+            put!(o, "store_received ", id & r.id, " mc=", id & r.reference, " prev=", ids & r.prev, " top=", tops & r.tops);
             put!(o, " anchor=", opt r.anchor, " pay=", num r.payload);
         }
         Request::Validation(i, v) => {
             put!(o, "validation ", id i);
             match v {
-                Verdict::Complete { handle, weight } => put!(o, " complete ", num *handle, " ", num *weight),
+                Verdict::Complete { handle, weight } => put!(o, " complete ", num * handle, " ", num * weight),
                 Verdict::Skipped => put!(o, " skipped"),
             }
         }
-        Request::Pop(f) => put!(o, "pop ", num *f),
+        Request::Pop(f) => put!(o, "pop ", num * f),
         Request::Sync(i) => put!(o, "sync ", id i),
-        Request::Peek(f) => put!(o, "peek ", num *f),
-        Request::TailIds(k) => put!(o, "tail_ids ", key *k),
+        Request::Peek(f) => put!(o, "peek ", num * f),
+        Request::TailIds(k) => put!(o, "tail_ids ", key * k),
         Request::Boundary(k) => put!(o, "boundary ", keys k),
         Request::Collect => put!(o, "collect"),
         Request::RemoveNext(k) => put!(o, "remove_next ", keys k),
