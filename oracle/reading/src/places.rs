@@ -106,14 +106,14 @@ impl PlaceGroup {
         }
         Group { entries, mark: self.mark, boundary: self.boundary }
     }
-    fn write(&self, o: &mut Out, name: &str, shard: &str) {
-        let empty = PlaceGroup { entries: self.entries, ..PlaceGroup::default() };
-        if *self != empty {
+    /// The lines that make this group of another.
+    fn write_changes(&self, o: &mut Out, from: &PlaceGroup, name: &str, shard: &str) {
+        if (self.shard, self.count, self.mark, self.boundary) != (from.shard, from.count, from.mark, from.boundary) {
             o.extend_from_slice(format!("raw group {name} {shard} ").as_bytes());
             put!(o, "count=", num self.count, " mark=", opt self.mark, " boundary=", bound self.boundary, "\n");
         }
-        for (i, e) in self.entries.iter().enumerate() {
-            if *e != PlaceEntry::default() {
+        for (i, (e, old)) in self.entries.iter().zip(&from.entries).enumerate() {
+            if e != old {
                 o.extend_from_slice(format!("raw entry {name} {i} ").as_bytes());
                 e.write(o);
             }
@@ -150,25 +150,30 @@ impl Places {
     /// The lines of `dump raw`; a record that is all zeros is left out.
     pub fn write(&self, o: &mut Out) {
         put!(o, "raw zero\n");
-        if (self.zerostate, self.range, self.ids_count, self.shards_count) != (0, None, 0, 0) {
+        self.write_changes(o, &Places::default());
+    }
+
+    /// The `raw` lines that make these places of others.
+    pub fn write_changes(&self, o: &mut Out, from: &Places) {
+        if (self.zerostate, self.range, self.ids_count, self.shards_count) != (from.zerostate, from.range, from.ids_count, from.shards_count) {
             put!(o, "raw head zerostate=", num self.zerostate, " range=", range self.range);
             put!(o, " ids=", num self.ids_count, " shards=", num self.shards_count, "\n");
         }
-        for (i, id) in self.ids.iter().enumerate() {
-            if *id != Id::default() {
+        for (i, (id, old)) in self.ids.iter().zip(&from.ids).enumerate() {
+            if id != old {
                 put!(o, "raw id ", num i as u64, " ", id id, "\n");
             }
         }
-        self.masters.write(o, "m", "-");
-        for (i, t) in self.tops.iter().enumerate() {
-            if *t != PlaceTops::default() {
+        self.masters.write_changes(o, &from.masters, "m", "-");
+        for (i, (t, old)) in self.tops.iter().zip(&from.tops).enumerate() {
+            if t != old {
                 put!(o, "raw tops ", num i as u64, " count=", num t.count, " top=", tops &t.items, "\n");
             }
         }
-        for (i, g) in self.shards.iter().enumerate() {
+        for (i, (g, old)) in self.shards.iter().zip(&from.shards).enumerate() {
             let mut shard = vec![];
             text::shard(&mut shard, g.shard);
-            g.write(o, &i.to_string(), &String::from_utf8_lossy(&shard));
+            g.write_changes(o, old, &i.to_string(), &String::from_utf8_lossy(&shard));
         }
     }
 }
