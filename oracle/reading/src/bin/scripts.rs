@@ -25,10 +25,9 @@ fn main() {
         Some("full") => Mode::Full,
         Some(_) => usage(),
     };
-    let mut script = Script::new(seed, mode);
-    while script.calls < calls {
-        let left = calls - script.calls;
-        script.part(left);
+    let mut script = Script::new(seed, calls, mode);
+    while !script.is_done() {
+        script.part();
         output.write_all(&script.lines).expect("output");
         script.lines.clear();
     }

@@ -1,12 +1,12 @@
 //! Random scripts. The reading runs beside the writing, so that calls meet the cache as it stands.
 pub mod broken;
 mod caches;
+mod plots;
 mod scene;
 mod spoil;
 
-use crate::places::{PlaceEntry, SLICE};
+use crate::places::{PlaceEntry, Places, SLICE};
 use crate::put;
-use crate::questions::LENT;
 use crate::random::Random;
 use crate::records::*;
 use crate::replay::{Held, Replay};
@@ -35,35 +35,39 @@ pub struct Script {
     /// The lines so far; whoever writes them out may empty it.
     pub lines: Vec<u8>,
     pub calls: u64,
+    /// How many calls are wanted; no more are written.
+    wanted: u64,
     printed: Vec<u8>,
     allowance: i64,
 }
 
 impl Script {
-    pub fn new(seed: u64, mode: Mode) -> Script {
+    pub fn new(seed: u64, wanted: u64, mode: Mode) -> Script {
         let replay = Replay::new(Wrong::None);
-        Script { random: Random::new(seed), mode, replay, lines: vec![], calls: 0, printed: vec![], allowance: 0 }
+        Script { random: Random::new(seed), mode, replay, lines: vec![], calls: 0, wanted, printed: vec![], allowance: 0 }
+    }
+
+    pub fn is_done(&self) -> bool {
+        self.calls >= self.wanted
     }
 
     /// A part: a fresh or loaded cache, then calls that fit together.
-    pub fn part(&mut self, most_calls: u64) {
-        let end = self.calls + most_calls;
+    pub fn part(&mut self) {
         let mut scene = Scene::new(self);
         self.start(&mut scene);
-        match self.random.weighted(&[70, 12, 9, 9]) {
+        match self.random.weighted(&[35, 45, 7, 8, 5]) {
             0 => {}
-            1 => scene.fill_groups(self, end),
-            2 => scene.fill_masters(self, end),
-            _ => scene.fill_ids(self, end),
+            1 => scene.rounds(self),
+            2 => scene.fill_groups(self),
+            3 => scene.fill_masters(self),
+            _ => scene.fill_ids(self),
         }
-        let length = 20 + self.random.below(100) as u64;
-        let end = end.min(self.calls + length);
-        let mut tries = 0;
-        while self.calls < end && tries < 10_000 {
-            tries += 1;
-            if self.mode == Mode::Full && self.random.chance(3) {
+        // Some of these are left out of a script for the original.
+        for _ in 0..10 + self.random.below(80) {
+            let full = self.mode == Mode::Full;
+            if full && self.random.chance(3) {
                 self.lend();
-            } else if self.mode == Mode::Full && self.random.chance(2) {
+            } else if full && self.random.chance(2) {
                 self.broken_calls(&mut scene);
             } else {
                 let request = scene.request(self);
@@ -116,7 +120,7 @@ impl Script {
 
     /// Writes a call and runs it, unless the original can't answer it and the script is for it.
     pub fn call(&mut self, request: Request) -> Option<Answer> {
-        if self.mode == Mode::Domain && !self.in_domain(&request) {
+        if self.is_done() || self.mode == Mode::Domain && !self.in_domain(&request) {
             return None;
         }
         text::request(&mut self.lines, &request);
@@ -206,7 +210,7 @@ impl Script {
 
     /// A few calls on the cache with one thing broken, which is mended again.
     fn broken_calls(&mut self, scene: &mut Scene) {
-        let whole = crate::places::Places::of(self.cache());
+        let whole = Places::of(self.cache());
         let (_, break_it) = self.random.pick(broken::BREAKS);
         let mut places = whole.clone();
         break_it(&mut places, &mut self.random);
@@ -219,14 +223,14 @@ impl Script {
         // A break may leave a cache sound (an order of one entry): the calls then change it, and it is set back whole.
         match &self.replay.held {
             Held::Places(p) => places = p.clone(),
-            Held::Lists(c) => places = crate::places::Places::of(c),
+            Held::Lists(c) => places = Places::of(c),
         }
         self.raw_changes(&places, &whole);
-        self.call(Request::Sound);
+        self.replay.call(&Request::Sound);
     }
 
     /// The `raw` lines that make one cache of another.
-    pub fn raw_changes(&mut self, from: &crate::places::Places, to: &crate::places::Places) {
+    pub fn raw_changes(&mut self, from: &Places, to: &Places) {
         let mut lines = vec![];
         to.write_changes(&mut lines, from);
         for line in lines.split(|b| *b == b'\n').filter(|l| !l.is_empty()) {
@@ -237,10 +241,9 @@ impl Script {
 
 /// A whole script, in memory.
 pub fn script(seed: u64, calls: u64, mode: Mode) -> Vec<u8> {
-    let mut s = Script::new(seed, mode);
-    while s.calls < calls {
-        let left = calls - s.calls;
-        s.part(left);
+    let mut s = Script::new(seed, calls, mode);
+    while !s.is_done() {
+        s.part();
     }
     s.lines
 }
@@ -273,9 +276,4 @@ fn tail_steps(c: &Cache, seqno: u32) -> usize {
         }
     }
     steps
-}
-
-/// Enough places for an extraction.
-pub fn enough(lent: usize) -> bool {
-    lent >= LENT
 }

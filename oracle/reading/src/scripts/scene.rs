@@ -1,7 +1,7 @@
 //! A scene: some shards, some seqnos, and calls among them that fit the cache as it stands.
 use super::spoil::spoil;
 use super::{Mode, Script};
-use crate::places::{ENTRIES, IDS, SHARDS, TOPS};
+use crate::places::{SHARDS, TOPS};
 use crate::random::{Random, mix};
 use crate::records::*;
 
@@ -20,16 +20,16 @@ pub struct Scene {
     /// The master that shard blocks name.
     pub current: u32,
     /// In percent: ids of another hash, blocks that name another master, blocks with two parents.
-    other_hash: usize,
-    foreign: usize,
-    two_parents: usize,
-    weights: [usize; 12],
+    pub other_hash: usize,
+    pub foreign: usize,
+    pub two_parents: usize,
+    pub weights: [usize; 12],
 }
 
 /// Calls by weight: shard and master stores (collated, received), stores at a place that is taken, validation, pop, sync, peek, tail ids, boundary and collect, remove next.
 const STORING: [usize; 12] = [30, 14, 10, 10, 12, 6, 4, 3, 3, 5, 3, 2];
 const EVENLY: [usize; 12] = [10, 10, 10, 10, 10, 8, 8, 8, 6, 8, 8, 6];
-const MASTERS: [usize; 12] = [4, 4, 18, 18, 16, 14, 7, 7, 4, 2, 8, 8];
+pub const MASTERS: [usize; 12] = [4, 4, 18, 18, 16, 14, 7, 7, 4, 2, 8, 8];
 
 impl Scene {
     pub fn new(script: &mut Script) -> Scene {
@@ -95,7 +95,7 @@ impl Scene {
     }
 
     /// Another block of the same shard and seqno: one byte of one hash, first, middle or last, or both hashes.
-    fn other(&self, r: &mut Random, mut id: Id) -> Id {
+    pub fn other(&self, r: &mut Random, mut id: Id) -> Id {
         let at = r.pick(&[0, 0, 15, 31]);
         match r.below(3) {
             0 => id.root[at] ^= 0x81,
@@ -108,7 +108,7 @@ impl Scene {
         id
     }
 
-    fn maybe_other(&self, r: &mut Random, id: Id) -> Id {
+    pub fn maybe_other(&self, r: &mut Random, id: Id) -> Id {
         if r.chance(self.other_hash) { self.other(r, id) } else { id }
     }
 
@@ -125,7 +125,7 @@ impl Scene {
     }
 
     /// The seqno of a store: mostly the next one, or a gap, a taken place, or any.
-    fn store_seqno(&self, r: &mut Random, group: Option<&Group>, base: u32) -> u32 {
+    pub fn store_seqno(&self, r: &mut Random, group: Option<&Group>, base: u32) -> u32 {
         let any = self.within(r, base);
         let Some(g) = group else {
             return if r.chance(70) { base } else { any };
@@ -194,9 +194,15 @@ impl Scene {
             };
             tops.push(Top { reference, id, updated: r.chance(80) });
         }
-        // A top's id that is also a previous id.
-        if r.chance(20) && tops.len() < TOPS && !tops.is_empty() {
-            let t = tops[r.below(tops.len())];
+        if tops.is_empty() || tops.len() == TOPS {
+            return tops;
+        }
+        let t = tops[r.below(tops.len())];
+        if r.chance(self.other_hash) {
+            let at = r.below(tops.len() + 1);
+            tops.insert(at, Top { id: self.other(r, t.id), ..t });
+        } else if r.chance(20) {
+            // A top's id that is also a previous id.
             let entry = cache.shard(t.id.shard()).and_then(|g| g.at(t.id.seqno()).map(|at| &g.entries[at]));
             if let Some(p) = entry.and_then(|e| e.prev.first()) {
                 let at = r.below(tops.len() + 1);
@@ -211,7 +217,7 @@ impl Scene {
     }
 
     /// A block to store; a shard block has no top item.
-    fn candidate(&self, r: &mut Random, cache: &Cache, id: Id) -> Candidate {
+    pub fn candidate(&self, r: &mut Random, cache: &Cache, id: Id) -> Candidate {
         let master = id.is_masterchain();
         let reference = if master && r.chance(90) { id.seqno() } else { self.reference(r) };
         let tops = if master { self.tops(r, cache, id.seqno()) } else { vec![] };
@@ -219,7 +225,7 @@ impl Scene {
         Candidate { id, reference, prev: self.prev(r, cache, &id), tops, anchor, processed_to, payload }
     }
 
-    fn received(&self, r: &mut Random, cache: &Cache, id: Id) -> Received {
+    pub fn received(&self, r: &mut Random, cache: &Cache, id: Id) -> Received {
         let c = self.candidate(r, cache, id);
         let reference = match id.is_masterchain() {
             true if r.chance(97) => id,
@@ -230,11 +236,11 @@ impl Scene {
         Received { id, reference, prev: c.prev, tops: c.tops, anchor: c.anchor, payload }
     }
 
-    fn store(&self, r: &mut Random, cache: &Cache, id: Id, collate: bool) -> Request {
+    pub fn store(&self, r: &mut Random, cache: &Cache, id: Id, collate: bool) -> Request {
         if collate { collated(self.candidate(r, cache, id)) } else { Request::StoreReceived(Box::new(self.received(r, cache, id))) }
     }
 
-    fn shard_id(&self, r: &mut Random, cache: &Cache) -> Id {
+    pub fn shard_id(&self, r: &mut Random, cache: &Cache) -> Id {
         let shard = r.pick(&self.shards);
         let seqno = self.store_seqno(r, cache.shard(shard), self.shard_base);
         self.maybe_other(r, self.id(shard, seqno))
@@ -348,80 +354,9 @@ impl Scene {
             _ => Request::RemoveNext(self.keys(r, cache, high_seqno)),
         }
     }
-
-    /// Every group full, every block with two previous ids and naming one master, whose tops reach all: 128 joined blocks, 264 ids taken where there are 8 groups.
-    pub fn fill_groups(&mut self, script: &mut Script, end: u64) {
-        self.shards = shards(&mut script.random, SHARDS);
-        self.shard_base = self.shard_base.clamp(2, HIGHEST - ENTRIES as u32);
-        (self.current, self.two_parents) = (self.current.max(self.zerostate.saturating_add(1)).min(HIGHEST), 100);
-        for shard in self.shards.clone() {
-            for i in 0..ENTRIES as u32 {
-                if script.calls >= end {
-                    return;
-                }
-                let id = self.id(shard, self.shard_base + i);
-                let (r, cache) = (&mut script.random.clone(), script.cache());
-                let mut c = self.candidate(r, cache, id);
-                c.prev = vec![self.id(shard, id.seqno() - 1), self.id(shard, id.seqno() - 2)];
-                c.reference = self.current;
-                script.random = r.clone();
-                script.call(collated(c));
-            }
-        }
-        self.full_master(script);
-    }
-
-    /// A received master whose tops are the highest blocks of all shards; then what looks at them and takes them.
-    fn full_master(&mut self, script: &mut Script) {
-        let id = self.id(self.masterchain, self.current);
-        let top = |s: &Shard| Top { reference: self.current, id: self.id(*s, self.shard_base + ENTRIES as u32 - 1), updated: true };
-        let tops = self.shards.iter().map(top).collect();
-        script.call(Request::StoreReceived(Box::new(Received { id, reference: id, prev: vec![], tops, anchor: Some(3), payload: 0 })));
-        if script.mode == Mode::Full {
-            script.call(Request::TailIds(id.key));
-        }
-        script.call(Request::Peek(0));
-        if script.random.chance(70) {
-            script.call(Request::Pop(self.current));
-        }
-    }
-
-    /// Sixteen masters of both kinds.
-    pub fn fill_masters(&mut self, script: &mut Script, end: u64) {
-        let first = self.base.max(self.zerostate).min(HIGHEST - ENTRIES as u32);
-        (self.weights, self.base) = (MASTERS, first);
-        for i in 0..=ENTRIES as u32 {
-            if script.calls >= end {
-                return;
-            }
-            let id = self.id(self.masterchain, first + i);
-            let (r, cache) = (&mut script.random.clone(), script.cache());
-            let collate = r.chance(50);
-            let request = self.store(r, cache, id, collate);
-            script.random = r.clone();
-            script.call(request);
-        }
-    }
-
-    /// Thirty-two last collated ids: masters are collated downwards and leave by sync extraction, which keeps the ids above.
-    pub fn fill_ids(&mut self, script: &mut Script, end: u64) {
-        let first = self.base.min(HIGHEST - 40);
-        (self.weights, self.base, self.reach) = (MASTERS, first, 40);
-        for i in (0..IDS as u32 + 2).rev() {
-            if script.calls >= end {
-                return;
-            }
-            let id = self.id(self.masterchain, first + i);
-            let (r, cache) = (&mut script.random.clone(), script.cache());
-            let c = Candidate { tops: vec![], ..self.candidate(r, cache, id) };
-            script.random = r.clone();
-            script.call(collated(c));
-            script.call(Request::Sync(id));
-        }
-    }
 }
 
-fn collated(c: Candidate) -> Request {
+pub fn collated(c: Candidate) -> Request {
     Request::StoreCollated(Box::new(c))
 }
 
@@ -444,7 +379,7 @@ fn high_seqno(r: &mut Random, g: &Group, base: u32) -> u32 {
 }
 
 /// Shards of several workchains, each prefix whole, split or odd; all different.
-fn shards(r: &mut Random, count: usize) -> Vec<Shard> {
+pub fn shards(r: &mut Random, count: usize) -> Vec<Shard> {
     let mut shards: Vec<Shard> = vec![];
     while shards.len() < count {
         let workchain = if r.chance(60) { 0 } else { r.pick(&[0, 1, -2, i32::MAX, i32::MIN]) };
