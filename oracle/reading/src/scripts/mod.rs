@@ -65,7 +65,9 @@ impl Script {
         // Some of these are left out of a script for the original.
         for _ in 0..10 + self.random.below(80) {
             let full = self.mode == Mode::Full;
-            if full && self.random.chance(3) {
+            if self.random.chance(1) {
+                self.again();
+            } else if full && self.random.chance(3) {
                 self.lend();
             } else if full && self.random.chance(2) {
                 self.broken_calls(&mut scene);
@@ -78,6 +80,7 @@ impl Script {
     }
 
     fn start(&mut self, scene: &mut Scene) {
+        self.line(&format!("# {} shards, masters from {}", scene.shards.len(), scene.base));
         self.lend();
         if self.random.chance(35) {
             let cache = caches::sound(scene, &mut self.random);
@@ -208,6 +211,21 @@ impl Script {
         self.bytes(line.strip_suffix(b"\n").expect("a line end"));
     }
 
+    /// The cache is set to what it holds, by its own dump.
+    fn again(&mut self) {
+        let cache = self.cache().clone();
+        if self.mode == Mode::Domain || self.random.chance(50) {
+            self.load(&cache);
+            return;
+        }
+        let mut raw = vec![];
+        Places::of(&cache).write(&mut raw);
+        for line in raw.split(|b| *b == b'\n') {
+            self.bytes(line);
+        }
+        self.replay.call(&Request::Sound);
+    }
+
     /// A few calls on the cache with one thing broken, which is mended again.
     fn broken_calls(&mut self, scene: &mut Scene) {
         let whole = Places::of(self.cache());
@@ -215,7 +233,12 @@ impl Script {
         let mut places = whole.clone();
         break_it(&mut places, &mut self.random);
         let requests: Vec<Request> = (0..3).map(|_| scene.request(self)).filter(|r| !matches!(r, Request::New(_))).collect();
-        self.raw_changes(&whole, &places);
+        if self.random.chance(70) {
+            self.raw_changes(&whole, &places);
+        } else {
+            let cache = self.broken_lists(&places);
+            self.load(&cache);
+        }
         for r in requests {
             self.call(r);
         }
@@ -227,6 +250,18 @@ impl Script {
         }
         self.raw_changes(&places, &whole);
         self.replay.call(&Request::Sound);
+    }
+
+    /// What a load can break: the lists of broken places, or a list that is longer than its record.
+    fn broken_lists(&mut self, places: &Places) -> Cache {
+        let mut cache = places.view();
+        let long = self.random.chance(50);
+        if let Some(e) = cache.masters.entries.first_mut().filter(|_| long) {
+            e.prev.resize(3, e.id);
+        } else if let Some(e) = cache.masters.entries.last_mut().filter(|e| !e.tops.is_empty()) {
+            e.tops.resize(9, e.tops[0]);
+        }
+        cache
     }
 
     /// The `raw` lines that make one cache of another.

@@ -215,7 +215,7 @@ impl Driver {
     }
 
     fn line(&mut self, o: &mut text::Out, line: &[u8]) -> Result<(), &'static str> {
-        let command = command(line)?;
+        let Ok(command) = command(line) else { return Err("no line that the original can answer") };
         if self.loading.is_some() != matches!(command, Command::Loading(_)) && command != Command::Skip {
             return Err("a dump's lines stand within a load, and only they");
         }
