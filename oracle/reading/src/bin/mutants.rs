@@ -1,5 +1,5 @@
-//! For each wrong reading, random scripts until its output differs from the right one's: `mutants [SEED [CALLS]]`.
-//! CALLS is the limit for each mutant. Exit code 1 if one is not found.
+//! For each wrong reading, random scripts until its output differs from the right one's: `mutants [SEED [CALLS [domain]]]`.
+//! CALLS is the limit for each mutant; `domain` takes only scripts for the original. Exit code 1 if one is not found.
 use std::panic::{AssertUnwindSafe, catch_unwind};
 
 use reading::replay::Replay;
@@ -31,10 +31,10 @@ fn print(replay: &mut Replay, command: &Command) -> Vec<u8> {
     out
 }
 
-/// Scripts by turns: what the original can answer, everything, and once the broken caches.
-fn trials(seed: u64, n: u64) -> Trial {
+/// Scripts by turns: what the original can answer, everything, broken caches.
+fn trials(seed: u64, n: u64, domain: bool) -> Trial {
     let seed_of = seed.wrapping_mul(1_000_003).wrapping_add(n);
-    match n % 4 {
+    match if domain { 0 } else { n % 4 } {
         0 | 2 => trial(format!("domain {seed_of}"), &script(seed_of, CALLS_OF_SCRIPT, Mode::Domain)),
         1 => trial(format!("full {seed_of}"), &script(seed_of, CALLS_OF_SCRIPT, Mode::Full)),
         _ => trial(format!("unsound {seed_of}"), &broken::unsound(seed_of).lines),
@@ -57,9 +57,9 @@ fn first_difference(wrong: Wrong, trial: &Trial) -> Option<u64> {
 }
 
 fn main() {
-    let mut args = std::env::args().skip(1).map(|a| a.parse::<u64>().expect("mutants [SEED [CALLS]]"));
-    let seed = args.next().unwrap_or(1);
-    let limit = args.next().unwrap_or(200_000);
+    let args: Vec<String> = std::env::args().collect();
+    let number = |n: usize, default| args.get(n).map_or(default, |a| a.parse::<u64>().expect("mutants [SEED [CALLS [domain]]]"));
+    let (seed, limit, domain) = (number(1, 1), number(2, 200_000), args.get(3).is_some_and(|a| a == "domain"));
     std::panic::set_hook(Box::new(|_| ()));
     let mut made: Vec<Trial> = vec![];
     let mut found = 0;
@@ -70,7 +70,7 @@ fn main() {
                 break None;
             }
             if made.len() == n {
-                made.push(trials(seed, n as u64));
+                made.push(trials(seed, n as u64, domain));
             }
             if let Some(more) = first_difference(*wrong, &made[n]) {
                 break Some((calls + more, &made[n].name));
