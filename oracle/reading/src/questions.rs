@@ -166,16 +166,21 @@ impl Rules {
         };
         // "ids all masterchain under their seqnos", at most 32
         let ids = c.ids.len() <= IDS && c.ids.iter().all(Id::is_masterchain) && rising(c.ids.iter().map(Id::seqno));
-        let masters = self.sound_group(&c.masters, |s| s.is_masterchain());
+        let masters = self.sound_group(&c.masters, |s| s.is_masterchain() && (s.prefix == 1 << 63 || !self.is(Wrong::MasterPrefixFixed)));
         // "up to 8 shard groups, by rising shard", "no masterchain shard group"
         let count = c.shards.len() <= SHARDS + usize::from(self.is(Wrong::NineShards));
         let order = rising(c.shards.iter().map(|(s, _)| self.shard_order(*s)));
+        // Question 2 is asked of entries alone.
+        let asked = |wrong, seqno: Option<u32>| self.is(wrong) && seqno == Some(u32::MAX);
+        if asked(Wrong::ZerostateAsked, Some(c.zerostate)) || asked(Wrong::IdsAsked, c.ids.last().map(Id::seqno)) || asked(Wrong::MarkAsked, mark) {
+            return false;
+        }
         range && ids && masters && count && order && c.shards.iter().all(|(s, g)| !s.is_masterchain() && self.sound_group(g, |x| x == *s))
     }
 
     fn sound_group(&self, g: &Group, own: impl Fn(Shard) -> bool) -> bool {
         let count = g.entries.len() <= ENTRIES + usize::from(self.is(Wrong::SeventeenEntries));
-        let boundary = g.boundary.is_none_or(|k| own(k.shard));
+        let boundary = g.boundary.is_none_or(|k| own(k.shard) && (k.seqno < u32::MAX || !self.is(Wrong::BoundaryAsked)));
         count && boundary && rising(g.entries.iter().map(Entry::seqno)) && g.entries.iter().all(|e| own(e.id.shard()) && self.sound_entry(e))
     }
 

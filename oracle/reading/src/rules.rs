@@ -374,7 +374,7 @@ impl Rules {
         let m = &cache.masters.entries[at];
         let mut rows = BTreeMap::new();
         let mut queued: VecDeque<(Id, bool)> = m.tops.iter().map(|t| (t.id, true)).collect();
-        let mut known = BTreeSet::new();
+        let mut known: BTreeSet<Id> = queued.iter().filter(|_| self.is(Wrong::TailTopsOnce)).map(|(id, _)| *id).collect();
         while let Some((id, is_top)) = queued.pop_front() {
             // "seqno 0 is skipped"
             if id.seqno() == 0 && !self.is(Wrong::TailSeqnoZero) {

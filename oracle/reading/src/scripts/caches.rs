@@ -27,6 +27,10 @@ pub fn sound(scene: &Scene, r: &mut Random) -> Cache {
     marked(scene, r, scene.masterchain, &mut cache.masters);
     let most = r.pick(&[0, 2, 5, IDS]);
     cache.ids = seqnos(r, scene.base, 2 * scene.reach, most).into_iter().map(|s| scene.id(scene.masterchain, s)).collect();
+    // Question 2 is not asked of ids.
+    if cache.ids.len() < IDS && r.chance(5) {
+        cache.ids.push(scene.id(scene.masterchain, u32::MAX));
+    }
     if let Some(mark) = cache.masters.mark.filter(|_| r.chance(70)) {
         let low = scene.base.min(mark);
         let end = r.between(low, mark);
@@ -61,7 +65,7 @@ fn marked(scene: &Scene, r: &mut Random, shard: Shard, g: &mut Group) {
 }
 
 pub fn entry(scene: &Scene, r: &mut Random, shard: Shard, seqno: u32) -> Entry {
-    let id = scene.id(shard, seqno);
+    let id = scene.maybe_other(r, scene.id(shard, seqno));
     let opt = |r: &mut Random| r.chance(50).then(|| (r.wide() >> 32) as u32);
     let kind = if r.chance(50) {
         let status = r.pick(&[Status::Collated, Status::Validated, Status::ValidationSkipped, Status::Synced]);

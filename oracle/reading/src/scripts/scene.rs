@@ -94,9 +94,12 @@ impl Scene {
         id
     }
 
-    /// Another block of the same shard and seqno: one byte of one hash, first, middle or last, or both hashes.
+    /// Another block of the same seqno and group: one byte of one hash, first, middle or last, of both, or a master of another prefix.
     pub fn other(&self, r: &mut Random, mut id: Id) -> Id {
         let at = r.pick(&[0, 0, 15, 31]);
+        if id.is_masterchain() && r.chance(20) {
+            id.key.shard.prefix ^= 1 << 62;
+        }
         match r.below(3) {
             0 => id.root[at] ^= 0x81,
             1 => id.file[at] ^= 0x81,
@@ -194,22 +197,27 @@ impl Scene {
             };
             tops.push(Top { reference, id, updated: r.chance(80) });
         }
-        if tops.is_empty() || tops.len() == TOPS {
-            return tops;
-        }
-        let t = tops[r.below(tops.len())];
-        if r.chance(self.other_hash) {
-            let at = r.below(tops.len() + 1);
-            tops.insert(at, Top { id: self.other(r, t.id), ..t });
-        } else if r.chance(20) {
-            // A top's id that is also a previous id.
-            let entry = cache.shard(t.id.shard()).and_then(|g| g.at(t.id.seqno()).map(|at| &g.entries[at]));
-            if let Some(p) = entry.and_then(|e| e.prev.first()) {
-                let at = r.below(tops.len() + 1);
-                tops.insert(at, Top { id: *p, ..t });
+        for _ in 0..r.pick(&[0, 0, 1, 1, 2, 3]) {
+            if let Some(t) = self.further_top(r, cache, &tops).filter(|_| tops.len() < TOPS) {
+                tops.insert(r.below(tops.len() + 1), t);
             }
         }
         tops
+    }
+
+    /// One more item of a shard that has one: another hash, a missing block, or a previous id of the other.
+    fn further_top(&self, r: &mut Random, cache: &Cache, tops: &[Top]) -> Option<Top> {
+        if tops.is_empty() {
+            return None;
+        }
+        let t = tops[r.below(tops.len())];
+        let entry = cache.shard(t.id.shard()).and_then(|g| g.at(t.id.seqno()).map(|at| &g.entries[at]));
+        let id = match r.below(4) {
+            0 => self.other(r, t.id),
+            1 => self.id(t.id.shard(), self.shard_seqno(r)),
+            _ => *entry?.prev.first()?,
+        };
+        Some(Top { id, ..t })
     }
 
     fn anchor(&self, r: &mut Random) -> Option<u32> {
@@ -292,7 +300,8 @@ impl Scene {
         let mut keys = vec![];
         for _ in 0..r.pick(&[0, 1, 1, 2, 2, 3, 9]) {
             if r.chance(45) {
-                keys.push(Key { shard: self.masterchain, seqno: seqno(r, &cache.masters, self.base) });
+                let seqno = seqno(r, &cache.masters, self.base);
+                keys.push(self.maybe_other(r, self.id(self.masterchain, seqno)).key);
             } else {
                 let shard = r.pick(&self.shards);
                 let empty = Group::default();
