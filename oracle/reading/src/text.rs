@@ -112,13 +112,12 @@ pub fn tops(o: &mut Out, v: &[Top]) {
     list(o, v, top);
 }
 
+const STATUSES: [(Status, &str); 4] =
+    [(Status::Collated, "Collated"), (Status::Validated, "Validated"), (Status::ValidationSkipped, "ValidationSkipped"), (Status::Synced, "Synced")];
+
 pub fn status(o: &mut Out, s: Status) {
-    o.extend_from_slice(match s {
-        Status::Collated => b"Collated",
-        Status::Validated => b"Validated",
-        Status::ValidationSkipped => b"ValidationSkipped",
-        Status::Synced => b"Synced",
-    });
+    let (_, name) = STATUSES.iter().find(|(status, _)| *status == s).expect("every status has a name");
+    o.extend_from_slice(name.as_bytes());
 }
 
 pub fn kind(o: &mut Out, k: &Kind) {
@@ -382,16 +381,7 @@ impl<'a> Reader<'a> {
         self.list(Self::top)
     }
     fn status(&mut self) -> Read<Status> {
-        // The longer name first: `Validated` is no prefix of it, but order costs nothing.
-        for s in [Status::ValidationSkipped, Status::Validated, Status::Collated, Status::Synced] {
-            let mut name = vec![];
-            status(&mut name, s);
-            if let Some(rest) = self.rest.strip_prefix(&name[..]) {
-                self.rest = rest;
-                return Ok(s);
-            }
-        }
-        Err("status")
+        STATUSES.iter().find(|(_, name)| self.has(name)).map(|(status, _)| *status).ok_or("status")
     }
     pub fn kind(&mut self) -> Read<Kind> {
         if self.has("kind=collated status=") {

@@ -100,17 +100,8 @@ impl Driver {
                 None => Answer::NoChange,
                 Some(s) => Answer::Changed(status_back(s)),
             },
-            Request::Pop(from) => match c.pop_front_applied_mc_block_subgraph(*from) {
-                Err(e) => refused(&e),
-                Ok((x, last)) => match self.extracted(x) {
-                    Some(extracted) => Answer::Popped { last, extracted },
-                    None => Answer::AlreadyExtracted,
-                },
-            },
-            Request::Sync(i) => match self.extracted(c.extract_mc_block_subgraph_for_sync(&id(i))) {
-                Some(extracted) => Answer::Extracted(extracted),
-                None => Answer::AlreadyExtracted,
-            },
+            Request::Pop(from) => self.pop(*from),
+            Request::Sync(i) => self.extracted(c.extract_mc_block_subgraph_for_sync(&id(i))).map_or(Answer::AlreadyExtracted, Answer::Extracted),
             Request::Peek(from) => match c.peek_front_applied_mc_block_subgraph(*from) {
                 Err(e) => refused(&e),
                 Ok(None) => Answer::Nothing,
@@ -131,6 +122,13 @@ impl Driver {
             }
             Request::Sound => return Err("the original has no question 1"),
         })
+    }
+
+    fn pop(&self, from: u32) -> Answer {
+        match self.cache.pop_front_applied_mc_block_subgraph(from) {
+            Err(e) => refused(&e),
+            Ok((x, last)) => self.extracted(x).map_or(Answer::AlreadyExtracted, |extracted| Answer::Popped { last, extracted }),
+        }
     }
 
     fn store_received(&self, r: &language::Received) -> Answer {
