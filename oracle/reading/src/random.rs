@@ -16,16 +16,16 @@ impl Random {
     pub fn new(seed: u64) -> Random {
         Random { state: seed }
     }
-    pub fn next(&mut self) -> u64 {
+    pub fn number(&mut self) -> u64 {
         self.state = self.state.wrapping_add(0x9e37_79b9_7f4a_7c15);
         mix(self.state)
     }
     /// A number below `n`, which is not 0.
     pub fn below(&mut self, n: usize) -> usize {
-        (self.next() % n as u64) as usize
+        (self.number() % n as u64) as usize
     }
     pub fn between(&mut self, low: u32, high: u32) -> u32 {
-        (u64::from(low) + self.next() % (u64::from(high) - u64::from(low) + 1)) as u32
+        (u64::from(low) + self.number() % (u64::from(high) - u64::from(low) + 1)) as u32
     }
     pub fn chance(&mut self, percent: usize) -> bool {
         self.below(100) < percent
@@ -36,7 +36,7 @@ impl Random {
     /// A number of few or many bits.
     pub fn wide(&mut self) -> u64 {
         let bits = self.below(65) as u32;
-        self.next().checked_shr(bits).unwrap_or(0)
+        self.number().checked_shr(bits).unwrap_or(0)
     }
     /// A place of `weights`, each as likely as its weight.
     pub fn weighted(&mut self, weights: &[usize]) -> usize {

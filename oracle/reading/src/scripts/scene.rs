@@ -393,7 +393,7 @@ pub fn shards(r: &mut Random, count: usize) -> Vec<Shard> {
     while shards.len() < count {
         let workchain = if r.chance(60) { 0 } else { r.pick(&[0, 1, -2, i32::MAX, i32::MIN]) };
         let depth = r.below(4) as u32;
-        let split = ((r.next() << 1 | 1) << (63 - depth)) & u64::MAX;
+        let split = (r.number() << 1 | 1) << (63 - depth);
         let prefix = if r.chance(90) { split } else { r.pick(&[0, u64::MAX, 1]) };
         let shard = Shard { workchain, prefix };
         if !shards.contains(&shard) {
