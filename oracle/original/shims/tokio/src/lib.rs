@@ -1,0 +1,3 @@
+pub mod sync {
+    pub struct Notify;
+}
