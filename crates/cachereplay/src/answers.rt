@@ -35,10 +35,11 @@ use blocks_cache::tail_ids::TailRows;
 use blocks_cache::validation::ValidationAnswer;
 use blocks_group::store::StoreAnswer;
 
-// Where the next byte goes, and the number of the line that is read.
+// Where the next byte goes, the number of the line that is read, and how often its call is made and timed (0 for once, untimed).
 pub struct Cursor {
     pub at: usize,
     pub line: u64,
+    pub times: u64,
 }
 
 // A line that isn't as it should be.

@@ -21,6 +21,10 @@ use crate::scan::expect;
 use crate::scan::expect_end;
 use crate::scan::is_good;
 use crate::scan::is_word;
+use crate::times;
+use crate::times::microseconds;
+use crate::times::put_time;
+use crate::times::since;
 use block_records::block_id::BlockId;
 use block_records::store_records::BlockCandidate;
 use block_records::store_records::Keys;
@@ -28,16 +32,7 @@ use block_records::store_records::ReceivedBlock;
 use blocks_cache::cache::Cache;
 use blocks_cache::cache::NewCacheAnswer;
 use blocks_cache::cache::empty;
-use blocks_cache::collection::gc_prev_blocks;
-use blocks_cache::collection::remove_next_collated_blocks_from_cache;
-use blocks_cache::collection::set_gc_to_boundary;
-use blocks_cache::peek::peek_front_applied_mc_block_subgraph;
-use blocks_cache::soundness::sound_cache;
-use blocks_cache::stores::store_collated;
-use blocks_cache::stores::store_received;
-use blocks_cache::tail_ids::read_before_tail_ids_of_mc_block;
 use blocks_cache::validation::ValidationStatus;
-use blocks_cache::validation::store_master_block_validation_result;
 
 // The cache after a line, and where the next byte goes.
 pub struct Ran {
@@ -84,11 +79,20 @@ pub fn run_new(cache: Cache, line: &[u8], start: Scan, out: &mut [u8], cursor: C
     make(cache, read.value, out, cursor.at)
 }
 
-fn collated(before: Cache, candidate: BlockCandidate, out: &mut [u8], at: usize) -> Ran {
-    let result = store_collated(before, candidate);
+fn collated(before: Cache, candidate: BlockCandidate, out: &mut [u8], cursor: Cursor) -> Ran {
+    let start = microseconds();
+    let result = times::collated(before, candidate, cursor.times);
+    let spent = since(start);
     let answer = result.answer;
     let range = result.applied_mc_queue_range;
-    let next = put_stored(out, at, answer, result.last_collated_mc_block_id, range);
+    let at = put_stored(
+        out,
+        cursor.at,
+        answer,
+        result.last_collated_mc_block_id,
+        range,
+    );
+    let next = put_time(out, at, cursor.times, spent);
     let cache = result.cache;
     Ran { cache, at: next }
 }
@@ -105,14 +109,23 @@ pub fn run_store_collated(
     if !is_good(end) {
         return bad_line(cache, out, cursor, end);
     }
-    collated(cache, read.candidate, out, cursor.at)
+    collated(cache, read.candidate, out, cursor)
 }
 
-fn received(before: Cache, block: ReceivedBlock, out: &mut [u8], at: usize) -> Ran {
-    let result = store_received(before, block);
+fn received(before: Cache, block: ReceivedBlock, out: &mut [u8], cursor: Cursor) -> Ran {
+    let start = microseconds();
+    let result = times::received(before, block, cursor.times);
+    let spent = since(start);
     let answer = result.answer;
     let range = result.applied_mc_queue_range;
-    let next = put_stored(out, at, answer, result.last_collated_mc_block_id, range);
+    let at = put_stored(
+        out,
+        cursor.at,
+        answer,
+        result.last_collated_mc_block_id,
+        range,
+    );
+    let next = put_time(out, at, cursor.times, spent);
     let cache = result.cache;
     Ran { cache, at: next }
 }
@@ -129,7 +142,7 @@ pub fn run_store_received(
     if !is_good(end) {
         return bad_line(cache, out, cursor, end);
     }
-    received(cache, read.received, out, cursor.at)
+    received(cache, read.received, out, cursor)
 }
 
 fn read_complete(line: &[u8], start: Scan) -> StatusRead {
@@ -161,11 +174,14 @@ fn validate(
     id: BlockId,
     status: ValidationStatus,
     out: &mut [u8],
-    at: usize,
+    cursor: Cursor,
 ) -> Ran {
-    let result = store_master_block_validation_result(before, id, status);
+    let start = microseconds();
+    let result = times::validated(before, id, status, cursor.times);
+    let spent = since(start);
     let answer = result.answer;
-    let next = put_validated(out, at, answer);
+    let at = put_validated(out, cursor.at, answer);
+    let next = put_time(out, at, cursor.times, spent);
     let cache = result.cache;
     Ran { cache, at: next }
 }
@@ -185,7 +201,7 @@ pub fn run_validation(
         return bad_line(cache, out, cursor, end);
     }
     let status = result.status;
-    validate(cache, read.id, status, out, cursor.at)
+    validate(cache, read.id, status, out, cursor)
 }
 
 pub fn run_peek(cache: Cache, line: &[u8], start: Scan, out: &mut [u8], cursor: Cursor) -> usize {
@@ -194,8 +210,11 @@ pub fn run_peek(cache: Cache, line: &[u8], start: Scan, out: &mut [u8], cursor: 
     if !is_good(end) {
         return put_bad(out, cursor, end);
     }
-    let peek = peek_front_applied_mc_block_subgraph(cache, read.value);
-    put_peek(out, cursor.at, peek)
+    let start = microseconds();
+    let peek = times::peeked(cache, read.value, cursor.times);
+    let spent = since(start);
+    let at = put_peek(out, cursor.at, peek);
+    put_time(out, at, cursor.times, spent)
 }
 
 pub fn run_tail_ids(
@@ -210,15 +229,21 @@ pub fn run_tail_ids(
     if !is_good(end) {
         return put_bad(out, cursor, end);
     }
-    let ids = read_before_tail_ids_of_mc_block(cache, read.short);
+    let start = microseconds();
+    let ids = times::tail_ids(cache, read.short, cursor.times);
+    let spent = since(start);
     let answer = ids.answer;
-    put_tails(out, cursor.at, answer, ids.tails)
+    let at = put_tails(out, cursor.at, answer, ids.tails);
+    put_time(out, at, cursor.times, spent)
 }
 
-fn bound(before: Cache, keys: Keys, out: &mut [u8], at: usize) -> Ran {
-    let change = set_gc_to_boundary(before, keys);
+fn bound(before: Cache, keys: Keys, out: &mut [u8], cursor: Cursor) -> Ran {
+    let start = microseconds();
+    let change = times::bounded(before, keys, cursor.times);
+    let spent = since(start);
     let answer = change.answer;
-    let next = put_changed(out, at, answer);
+    let at = put_changed(out, cursor.at, answer);
+    let next = put_time(out, at, cursor.times, spent);
     let cache = change.cache;
     Ran { cache, at: next }
 }
@@ -229,13 +254,16 @@ pub fn run_boundary(cache: Cache, line: &[u8], start: Scan, out: &mut [u8], curs
     if !is_good(end) {
         return bad_line(cache, out, cursor, end);
     }
-    bound(cache, read.keys, out, cursor.at)
+    bound(cache, read.keys, out, cursor)
 }
 
-fn remove(before: Cache, keys: Keys, out: &mut [u8], at: usize) -> Ran {
-    let change = remove_next_collated_blocks_from_cache(before, keys);
+fn remove(before: Cache, keys: Keys, out: &mut [u8], cursor: Cursor) -> Ran {
+    let start = microseconds();
+    let change = times::removed(before, keys, cursor.times);
+    let spent = since(start);
     let answer = change.answer;
-    let next = put_changed(out, at, answer);
+    let at = put_changed(out, cursor.at, answer);
+    let next = put_time(out, at, cursor.times, spent);
     let cache = change.cache;
     Ran { cache, at: next }
 }
@@ -252,20 +280,31 @@ pub fn run_remove_next(
     if !is_good(end) {
         return bad_line(cache, out, cursor, end);
     }
-    remove(cache, read.keys, out, cursor.at)
+    remove(cache, read.keys, out, cursor)
 }
 
-pub fn run_collect(before: Cache, out: &mut [u8], at: usize) -> Ran {
-    let change = gc_prev_blocks(before);
+pub fn run_collect(before: Cache, out: &mut [u8], cursor: Cursor) -> Ran {
+    let start = microseconds();
+    let change = times::collected(before, cursor.times);
+    let spent = since(start);
     let answer = change.answer;
-    let next = put_changed(out, at, answer);
+    let at = put_changed(out, cursor.at, answer);
+    let next = put_time(out, at, cursor.times, spent);
     let cache = change.cache;
     Ran { cache, at: next }
 }
 
-pub fn run_sound(cache: Cache, out: &mut [u8], at: usize) -> usize {
-    if sound_cache(cache) {
+fn put_sound(out: &mut [u8], at: usize, sound: bool) -> usize {
+    if sound {
         return put_text(out, at, b"sound\n");
     }
     put_text(out, at, b"unsound\n")
+}
+
+pub fn run_sound(cache: Cache, out: &mut [u8], cursor: Cursor) -> usize {
+    let start = microseconds();
+    let sound = times::sound(cache, cursor.times);
+    let spent = since(start);
+    let at = put_sound(out, cursor.at, sound);
+    put_time(out, at, cursor.times, spent)
 }

@@ -95,6 +95,8 @@ pub const LENGTH: u8 = 46;
 
 pub const SLICE: u8 = 47;
 
+pub const TIMES: u8 = 48;
+
 fn put_value(out: &mut [u8], at: usize, missing: u8) -> usize {
     match missing {
         NUMBER_32 => put_text(out, at, b"a number below 4294967296 without spare zeros"),
@@ -140,6 +142,7 @@ fn put_command(out: &mut [u8], at: usize, missing: u8) -> usize {
         DUMP => put_text(out, at, b"raw, slice or the end of the line"),
         LENGTH => put_text(out, at, b"at most 8192 bytes"),
         SLICE => put_text(out, at, b"a number of places, at most 160"),
+        TIMES => put_text(out, at, b"a number of times, 1 to 4294967295"),
         _ => put_text(out, at, b"a command (help lists them)"),
     }
 }

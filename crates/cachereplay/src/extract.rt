@@ -8,12 +8,14 @@ use crate::read::read_u32;
 use crate::scan::Scan;
 use crate::scan::expect_end;
 use crate::scan::is_good;
+use crate::times;
+use crate::times::microseconds;
+use crate::times::put_time;
+use crate::times::since;
 use block_records::block_id::BlockId;
 use block_records::entry::BlockCacheEntry;
 use blocks_cache::cache::Cache;
 use blocks_cache::lent::ArrayExtract;
-use blocks_cache::lent::pop_to_array;
-use blocks_cache::lent::sync_to_array;
 
 // The places that can be lent, and how many are.
 pub struct Lent {
@@ -33,9 +35,10 @@ fn not_extracted(cache: Cache, lent: Lent, at: usize) -> Extracted {
     Extracted { cache, blocks, at }
 }
 
-fn answered(result: ArrayExtract, out: &mut [u8], at: usize) -> Extracted {
+fn answered(result: ArrayExtract, spent: u64, out: &mut [u8], cursor: Cursor) -> Extracted {
     let blocks = result.blocks;
-    let next = put_extract(out, at, result.extract, blocks);
+    let at = put_extract(out, cursor.at, result.extract, blocks);
+    let next = put_time(out, at, cursor.times, spent);
     let extract = result.extract;
     let cache = extract.cache;
     Extracted {
@@ -45,10 +48,11 @@ fn answered(result: ArrayExtract, out: &mut [u8], at: usize) -> Extracted {
     }
 }
 
-fn pop(cache: Cache, lent: Lent, from: u32, out: &mut [u8], at: usize) -> Extracted {
-    let blocks = lent.blocks;
-    let result = pop_to_array(cache, from, blocks, lent.places);
-    answered(result, out, at)
+fn pop(cache: Cache, lent: Lent, from: u32, out: &mut [u8], cursor: Cursor) -> Extracted {
+    let start = microseconds();
+    let result = times::popped(cache, lent, from, cursor.times);
+    let spent = since(start);
+    answered(result, spent, out, cursor)
 }
 
 pub fn run_pop(
@@ -65,13 +69,14 @@ pub fn run_pop(
         let at = put_bad(out, cursor, end);
         return not_extracted(cache, lent, at);
     }
-    pop(cache, lent, read.value, out, cursor.at)
+    pop(cache, lent, read.value, out, cursor)
 }
 
-fn sync(cache: Cache, lent: Lent, id: BlockId, out: &mut [u8], at: usize) -> Extracted {
-    let blocks = lent.blocks;
-    let result = sync_to_array(cache, id, blocks, lent.places);
-    answered(result, out, at)
+fn sync(cache: Cache, lent: Lent, id: BlockId, out: &mut [u8], cursor: Cursor) -> Extracted {
+    let start = microseconds();
+    let result = times::synced(cache, lent, id, cursor.times);
+    let spent = since(start);
+    answered(result, spent, out, cursor)
 }
 
 pub fn run_sync(
@@ -88,5 +93,5 @@ pub fn run_sync(
         let at = put_bad(out, cursor, end);
         return not_extracted(cache, lent, at);
     }
-    sync(cache, lent, read.id, out, cursor.at)
+    sync(cache, lent, read.id, out, cursor)
 }

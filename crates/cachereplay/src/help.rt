@@ -56,7 +56,7 @@ fn put_looks(out: &mut [u8], at: usize) -> usize {
     put_text(
         out,
         c,
-        b"help                                         these lines\n",
+        b"time N                                       the next call is made and timed N times, each on the same cache\nhelp                                         these lines\n",
     )
 }
 

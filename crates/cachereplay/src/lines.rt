@@ -95,7 +95,8 @@ fn is_dump_line(line: &[u8]) -> bool {
 }
 
 fn is_setting(line: &[u8]) -> bool {
-    is_command(line, b"load") || is_command(line, b"slice") || is_command(line, b"dump")
+    let set = is_command(line, b"load") || is_command(line, b"slice");
+    set || is_command(line, b"time") || is_command(line, b"dump")
 }
 
 fn kind_of_call(line: &[u8]) -> u8 {
@@ -154,7 +155,7 @@ fn run_bare_collect(cache: Cache, line: &[u8], out: &mut [u8], cursor: Cursor) -
     if !is_good(end) {
         return bad_line(cache, out, cursor, end);
     }
-    run_collect(cache, out, cursor.at)
+    run_collect(cache, out, cursor)
 }
 
 pub fn run_change(cache: Cache, line: &[u8], out: &mut [u8], cursor: Cursor) -> Ran {
@@ -167,14 +168,14 @@ pub fn run_change(cache: Cache, line: &[u8], out: &mut [u8], cursor: Cursor) -> 
     run_bare_collect(cache, line, out, cursor)
 }
 
-fn run_bare_look(cache: Cache, line: &[u8], out: &mut [u8], at: usize) -> usize {
+fn run_bare_look(cache: Cache, line: &[u8], out: &mut [u8], cursor: Cursor) -> usize {
     if is_command(line, b"graph") {
-        return graph(cache, out, at);
+        return graph(cache, out, cursor.at);
     }
     if is_command(line, b"help") {
-        return help(out, at);
+        return help(out, cursor.at);
     }
-    run_sound(cache, out, at)
+    run_sound(cache, out, cursor)
 }
 
 fn bare_look(line: &[u8]) -> Scan {
@@ -198,7 +199,7 @@ pub fn run_look(cache: Cache, line: &[u8], out: &mut [u8], cursor: Cursor) -> us
     if !is_good(end) {
         return put_bad(out, cursor, end);
     }
-    run_bare_look(cache, line, out, cursor.at)
+    run_bare_look(cache, line, out, cursor)
 }
 
 // `dump` alone, or with `raw`.

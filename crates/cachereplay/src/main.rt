@@ -16,6 +16,7 @@ mod records;
 mod replay;
 mod scan;
 mod spell;
+mod times;
 
 use libc::STDIN_FILENO;
 use output::flush;

@@ -26,6 +26,7 @@ use crate::raw::raw_slice;
 use crate::scan::Scan;
 use crate::scan::expect;
 use crate::scan::expect_end;
+use crate::scan::fail_unless;
 use crate::scan::is_good;
 use crate::scan::read_number;
 use block_records::entry::BlockCacheEntry;
@@ -41,6 +42,8 @@ pub struct Replay {
     pub blocks: [BlockCacheEntry; 160],
     // how many of them are lent
     pub places: usize,
+    // how often the next call is made and timed; 0 for once, untimed
+    pub times: u64,
     // between `load` and `end`
     pub loading: bool,
     // where a dump's entries go
@@ -63,6 +66,7 @@ pub fn new_replay() -> Replay {
         cache,
         blocks: [zero; 160],
         places: 128,
+        times: 0,
         loading: false,
         group: NO_GROUP,
         line: 0,
@@ -72,8 +76,8 @@ pub fn new_replay() -> Replay {
     }
 }
 
-fn cursor(at: usize, line: u64) -> Cursor {
-    Cursor { at, line }
+fn cursor(at: usize, line: u64, times: u64) -> Cursor {
+    Cursor { at, line, times }
 }
 
 fn printed(replay: Replay, at: usize) -> Replay {
@@ -93,7 +97,7 @@ fn with_ran(replay: Replay, ran: Ran) -> Replay {
 // The line is not as it should be.
 fn complain(replay: Replay, out: &mut [u8], missing: u8) -> Replay {
     let scan = Scan { at: 0, missing };
-    let at = put_bad(out, cursor(replay.at, replay.line), scan);
+    let at = put_bad(out, cursor(replay.at, replay.line, replay.times), scan);
     printed(replay, at)
 }
 
@@ -112,7 +116,7 @@ fn run_load(replay: Replay, line: &[u8], out: &mut [u8]) -> Replay {
     let name = expect(line, lines::start(), b"load", expected::COMMAND);
     let end = expect_end(line, name, expected::END);
     if !is_good(end) {
-        let at = put_bad(out, cursor(replay.at, replay.line), end);
+        let at = put_bad(out, cursor(replay.at, replay.line, replay.times), end);
         return printed(replay, at);
     }
     begin_load(replay)
@@ -122,7 +126,7 @@ fn run_slice(replay: Replay, line: &[u8], out: &mut [u8]) -> Replay {
     let read = read_number(line, words(line, b"slice"), 160, expected::SLICE);
     let end = expect_end(line, read.scan, expected::END);
     if !is_good(end) {
-        let at = put_bad(out, cursor(replay.at, replay.line), end);
+        let at = put_bad(out, cursor(replay.at, replay.line, replay.times), end);
         return printed(replay, at);
     }
     let mut next = replay;
@@ -130,11 +134,24 @@ fn run_slice(replay: Replay, line: &[u8], out: &mut [u8]) -> Replay {
     next
 }
 
+fn run_time(replay: Replay, line: &[u8], out: &mut [u8]) -> Replay {
+    let read = read_number(line, words(line, b"time"), 4294967295, expected::TIMES);
+    let some = fail_unless(read.scan, 0 < read.value, expected::TIMES);
+    let end = expect_end(line, some, expected::END);
+    if !is_good(end) {
+        let at = put_bad(out, cursor(replay.at, replay.line, replay.times), end);
+        return printed(replay, at);
+    }
+    let mut next = replay;
+    next.times = read.value;
+    next
+}
+
 fn run_dump_slice(replay: Replay, line: &[u8], out: &mut [u8]) -> usize {
     let name = expect(line, lines::start(), b"dump slice", expected::COMMAND);
     let end = expect_end(line, name, expected::END);
     if !is_good(end) {
-        return put_bad(out, cursor(replay.at, replay.line), end);
+        return put_bad(out, cursor(replay.at, replay.line, replay.times), end);
     }
     let blocks = replay.blocks;
     dump_slice(blocks, out, replay.at)
@@ -151,7 +168,12 @@ fn run_setting(replay: Replay, line: &[u8], out: &mut [u8]) -> Replay {
         let at = run_dump_slice(replay, line, out);
         return printed(replay, at);
     }
-    let at = run_dump(replay.cache, line, out, cursor(replay.at, replay.line));
+    let at = run_dump(
+        replay.cache,
+        line,
+        out,
+        cursor(replay.at, replay.line, replay.times),
+    );
     printed(replay, at)
 }
 
@@ -161,7 +183,7 @@ fn run_end(replay: Replay, line: &[u8], out: &mut [u8]) -> Replay {
     let name = expect(line, lines::start(), b"end", expected::COMMAND);
     let end = expect_end(line, name, expected::END);
     if !is_good(end) {
-        let at = put_bad(out, cursor(replay.at, replay.line), end);
+        let at = put_bad(out, cursor(replay.at, replay.line, replay.times), end);
         return printed(replay, at);
     }
     let mut next = replay;
@@ -190,7 +212,7 @@ fn load_line(replay: Replay, line: &[u8], out: &mut [u8]) -> Replay {
         replay.group,
         line,
         out,
-        cursor(replay.at, replay.line),
+        cursor(replay.at, replay.line, replay.times),
     );
     let cache = ran.cache;
     let mut next = with_ran(replay, ran);
@@ -223,7 +245,7 @@ fn run_extraction(replay: Replay, line: &[u8], out: &mut [u8]) -> Replay {
             line,
             words(line, b"pop"),
             out,
-            cursor(replay.at, replay.line),
+            cursor(replay.at, replay.line, replay.times),
         );
         return with_extracted(replay, popped);
     }
@@ -233,7 +255,7 @@ fn run_extraction(replay: Replay, line: &[u8], out: &mut [u8]) -> Replay {
         line,
         words(line, b"sync"),
         out,
-        cursor(replay.at, replay.line),
+        cursor(replay.at, replay.line, replay.times),
     );
     with_extracted(replay, synced)
 }
@@ -245,7 +267,7 @@ fn run_raw_slice(replay: Replay, line: &[u8], out: &mut [u8]) -> Replay {
         line,
         words(line, b"raw slice"),
         out,
-        cursor(replay.at, replay.line),
+        cursor(replay.at, replay.line, replay.times),
     );
     let blocks = placed.blocks;
     let mut next = replay;
@@ -257,7 +279,7 @@ fn run_raw_slice(replay: Replay, line: &[u8], out: &mut [u8]) -> Replay {
 // ===== a line =====
 
 fn run_cache_line(replay: Replay, what: u8, line: &[u8], out: &mut [u8]) -> Ran {
-    let cursor = cursor(replay.at, replay.line);
+    let cursor = cursor(replay.at, replay.line, replay.times);
     if what == lines::STORE {
         return run_store(replay.cache, line, out, cursor);
     }
@@ -275,7 +297,12 @@ fn run_other(replay: Replay, what: u8, line: &[u8], out: &mut [u8]) -> Replay {
         return run_setting(replay, line, out);
     }
     if what == lines::LOOK {
-        let at = run_look(replay.cache, line, out, cursor(replay.at, replay.line));
+        let at = run_look(
+            replay.cache,
+            line,
+            out,
+            cursor(replay.at, replay.line, replay.times),
+        );
         return printed(replay, at);
     }
     let ran = run_cache_line(replay, what, line, out);
@@ -295,13 +322,23 @@ fn run_command(replay: Replay, what: u8, line: &[u8], out: &mut [u8]) -> Replay 
     run_other(replay, what, line, out)
 }
 
+// `time` holds for the next line alone.
+fn run_timed(replay: Replay, what: u8, line: &[u8], out: &mut [u8]) -> Replay {
+    if is_command(line, b"time") {
+        return run_time(replay, line, out);
+    }
+    let mut next = run_command(replay, what, line, out);
+    next.times = 0;
+    next
+}
+
 pub fn run_line(replay: Replay, line: &[u8], out: &mut [u8]) -> Replay {
     let what = kind(line);
     if what == lines::NOTHING {
         return replay;
     }
     if !replay.loading {
-        return run_command(replay, what, line, out);
+        return run_timed(replay, what, line, out);
     }
     if what == lines::DUMP_LINE {
         return load_line(replay, line, out);

@@ -46,6 +46,7 @@ mod manager {
         // Child modules see the cache's private fields.
         mod convert;
         pub mod driver;
+        mod timing;
     }
 }
 

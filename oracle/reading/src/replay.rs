@@ -40,7 +40,8 @@ impl Replay {
 
     pub fn command(&mut self, o: &mut Out, command: Command) {
         match command {
-            Command::Skip => {}
+            // The reading is no program to time.
+            Command::Skip | Command::Time(_) => {}
             Command::Call(request) => {
                 let answer = self.call(&request);
                 text::answer(o, &answer);

@@ -37,6 +37,8 @@ pub enum Command {
     Skip,
     Call(Request),
     Slice(usize),
+    /// How often the next line's call is made and timed.
+    Time(u32),
     Dump,
     DumpRaw,
     DumpSlice,
@@ -54,6 +56,10 @@ pub fn command(line: &[u8]) -> Read<Command> {
     let word = word(&mut r);
     let command = match word {
         "slice" => Command::Slice(index(&mut r, SLICE + 1)?),
+        "time" => match r.u32()? {
+            0 => return Err("a number of times"),
+            times => Command::Time(times),
+        },
         "dump" => match r.rest() {
             b"" => Command::Dump,
             _ if r.has("raw") => Command::DumpRaw,

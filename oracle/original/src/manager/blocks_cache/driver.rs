@@ -5,6 +5,7 @@ use std::io::{BufRead, BufReader, Write};
 use std::panic::{AssertUnwindSafe, catch_unwind};
 use std::pin::pin;
 use std::task::{Context, Poll, Waker};
+use std::time::Duration;
 
 use async_trait::async_trait;
 use reading::records as language;
@@ -15,6 +16,7 @@ use tycho_block_util::block::BlockStuff;
 use tycho_types::cell::HashBytes;
 
 use super::convert::*;
+use super::timing::{Clock, Kept, changes, microseconds};
 use super::*;
 
 /// The block store that the cache asks about a received block.
@@ -81,11 +83,46 @@ struct Driver {
     cache: BlocksCache,
     /// Within a load: the shard that the next entry goes to, none for the masters.
     loading: Option<Option<Shard>>,
+    clock: Clock,
+    /// How often the next line's call is made and timed.
+    times: Option<u32>,
+    kept: Kept,
 }
 
 impl Driver {
+    fn new() -> Driver {
+        Driver { cache: BlocksCache::new(&zerostate(0)), loading: None, clock: Clock::default(), times: None, kept: Kept::default() }
+    }
+
+    /// A driver with the cache of this one, made again: the original's cache is no value that could be copied.
+    fn again(&self) -> Result<Driver, &'static str> {
+        let mut driver = Driver::new();
+        for command in &self.kept.commands {
+            driver.run(&mut vec![], command.clone())?;
+        }
+        driver.clock = Clock::default();
+        Ok(driver)
+    }
+
+    /// Makes the call so many times, each on the same cache, and answers its time too.
+    fn call_times(&mut self, request: &Request, times: u32) -> Result<(Answer, u128), &'static str> {
+        self.clock = Clock::default();
+        let mut others = Duration::ZERO;
+        for _ in 1..times {
+            if changes(request) {
+                let mut other = self.again()?;
+                other.call(request)?;
+                others += other.clock.spent();
+            } else {
+                self.call(request)?;
+            }
+        }
+        let answer = self.call(request)?;
+        Ok((answer, microseconds(others + self.clock.spent(), times)))
+    }
+
     fn call(&mut self, request: &Request) -> Result<Answer, &'static str> {
-        let c = &self.cache;
+        let (c, clock) = (&self.cache, &self.clock);
         Ok(match request {
             Request::New(z) => {
                 self.cache = BlocksCache::new(&zerostate(*z));
@@ -93,31 +130,44 @@ impl Driver {
             }
             Request::StoreCollated(r) => {
                 let b = Box::new(candidate(&r.id, r.reference, &r.prev, r.processed_to, r.payload));
-                c.store_collated(b, tops(&r.tops), r.anchor).map_or_else(|e| refused(&e), |r| stored(&r))
+                let tops = tops(&r.tops);
+                clock.time(|| c.store_collated(b, tops, r.anchor)).map_or_else(|e| refused(&e), |r| stored(&r))
             }
             Request::StoreReceived(r) => self.store_received(r),
-            Request::Validation(i, v) => match c.store_master_block_validation_result(&id(i), verdict(*v)) {
-                None => Answer::NoChange,
-                Some(s) => Answer::Changed(status_back(s)),
-            },
+            Request::Validation(i, v) => {
+                let (id, verdict) = (id(i), verdict(*v));
+                match clock.time(|| c.store_master_block_validation_result(&id, verdict)) {
+                    None => Answer::NoChange,
+                    Some(s) => Answer::Changed(status_back(s)),
+                }
+            }
             Request::Pop(from) => self.pop(*from),
-            Request::Sync(i) => self.extracted(c.extract_mc_block_subgraph_for_sync(&id(i))).map_or(Answer::AlreadyExtracted, Answer::Extracted),
-            Request::Peek(from) => match c.peek_front_applied_mc_block_subgraph(*from) {
+            Request::Sync(i) => {
+                let id = id(i);
+                let extract = clock.time(|| c.extract_mc_block_subgraph_for_sync(&id));
+                self.extracted(extract).map_or(Answer::AlreadyExtracted, Answer::Extracted)
+            }
+            Request::Peek(from) => match clock.time(|| c.peek_front_applied_mc_block_subgraph(*from)) {
                 Err(e) => refused(&e),
                 Ok(None) => Answer::Nothing,
                 Ok(Some(v)) => Answer::Found(view(&v)),
             },
-            Request::TailIds(k) => c.read_before_tail_ids_of_mc_block(&key(k)).map_or_else(|e| refused(&e), rows),
+            Request::TailIds(k) => {
+                let key = key(k);
+                clock.time(|| c.read_before_tail_ids_of_mc_block(&key)).map_or_else(|e| refused(&e), rows)
+            }
             Request::Boundary(keys) => {
-                c.set_gc_to_boundary(&keys.iter().map(key).collect::<Vec<_>>());
+                let keys: Vec<_> = keys.iter().map(key).collect();
+                clock.time(|| c.set_gc_to_boundary(&keys));
                 Answer::Done
             }
             Request::Collect => {
-                c.gc_prev_blocks();
+                clock.time(|| c.gc_prev_blocks());
                 Answer::Done
             }
             Request::RemoveNext(keys) => {
-                c.remove_next_collated_blocks_from_cache(&keys.iter().map(key).collect::<Vec<_>>());
+                let keys: Vec<_> = keys.iter().map(key).collect();
+                clock.time(|| c.remove_next_collated_blocks_from_cache(&keys));
                 Answer::Done
             }
             Request::Sound => return Err("the original has no question 1"),
@@ -125,7 +175,7 @@ impl Driver {
     }
 
     fn pop(&self, from: u32) -> Answer {
-        match self.cache.pop_front_applied_mc_block_subgraph(from) {
+        match self.clock.time(|| self.cache.pop_front_applied_mc_block_subgraph(from)) {
             Err(e) => refused(&e),
             Ok((x, last)) => self.extracted(x).map_or(Answer::AlreadyExtracted, |extracted| Answer::Popped { last, extracted }),
         }
@@ -136,7 +186,8 @@ impl Driver {
         // The original can't be given a block without a previous id: one stands in, and is taken out of a fresh entry.
         let prev = if r.prev.is_empty() { vec![id(&r.id)] } else { ids(&r.prev) };
         let adapter = Arc::new(Adapter { zerostate: zerostate(c.inner.zerostate_mc_seqno), prev, payload: r.payload });
-        let store = || block_on(c.store_received(adapter, &id(&r.reference), state(r), Default::default()));
+        let (reference, state) = (id(&r.reference), state(r));
+        let store = || self.clock.time(|| block_on(c.store_received(adapter, &reference, state, Default::default())));
         match catch_unwind(AssertUnwindSafe(store)) {
             // 6 is a debug assertion, made before anything is locked.
             Err(e) if !PANIC.with_borrow(|words| words.contains("is_masterchain()")) => std::panic::resume_unwind(e),
@@ -217,8 +268,26 @@ impl Driver {
         if self.loading.is_some() != matches!(command, Command::Loading(_)) && command != Command::Skip {
             return Err("a dump's lines stand within a load, and only they");
         }
+        if command == Command::Skip {
+            return Ok(());
+        }
+        let times = self.times.take();
+        match (&command, times) {
+            (Command::Time(times), _) => self.times = Some(*times),
+            (Command::Call(request), Some(times)) if !matches!(request, Request::New(_)) => {
+                let (answer, spent) = self.call_times(request, times)?;
+                text::answer(o, &answer);
+                writeln!(o, "time {times} calls {spent} microseconds").expect("a vector");
+            }
+            _ => self.run(o, command.clone())?,
+        }
+        self.kept.keep(&command);
+        Ok(())
+    }
+
+    fn run(&mut self, o: &mut text::Out, command: Command) -> Result<(), &'static str> {
         match command {
-            Command::Skip | Command::Slice(_) => {}
+            Command::Skip | Command::Slice(_) | Command::Time(_) => {}
             Command::Call(request) => text::answer(o, &self.call(&request)?),
             Command::Dump => text::dump(o, &cache_back(&self.cache)),
             Command::Load => {
@@ -262,7 +331,7 @@ fn stop(out: &[u8], number: u64, why: &str) -> ! {
 pub fn main() {
     std::panic::set_hook(Box::new(|info| PANIC.set(info.to_string())));
     let mut input = BufReader::with_capacity(1 << 20, std::io::stdin().lock());
-    let mut driver = Driver { cache: BlocksCache::new(&zerostate(0)), loading: None };
+    let mut driver = Driver::new();
     let (mut line, mut out, mut number) = (vec![], vec![], 0);
     loop {
         line.clear();
