@@ -3,14 +3,11 @@
 use native.Mathlib.Omega.{arith}
 use lib.ListN.{length-take}
 use borrow.Author.Needs.{needs}
-use Rattle.cachereplay.proofs.replay.end_line.Statement.{statement}
-use Rattle.cachereplay.proofs.replay.end_line.Tie as tie
+use Rattle.cachereplay.proofs.run_read.Statement.{statement}
+use Rattle.cachereplay.proofs.run_read.Tie as tie
 
-plus-requires : tie.Need-plus-requires
-plus-requires c κs = search needs
-
-complain-requires : tie.Need-complain-requires
-complain-requires c κs = search needs
+run-too-long-requires : tie.Need-run-too-long-requires
+run-too-long-requires c κs = search needs
 
 same-length : tie.Need-same-length
 same-length c = search needs
@@ -20,8 +17,8 @@ returns c = search needs
 
 slice-aggregate-run-line : tie.Need-slice-aggregate-run-line
 slice-aggregate-run-line c =
-    let s = c .before .before .before .before .before in
-    omega (arith, length-take (s .args .replay .length) (s .args .line .now), c .before .if1 .left)
+    let s = c .before .before .before .before in
+    omega (arith, length-take (s .args .length) (s .args .line .now), c .before .if1 .left)
 
 run-line-requires : tie.Need-run-line-requires
 run-line-requires c κs = search needs
@@ -32,12 +29,11 @@ same-length-2 c = search needs
 returns-2 : tie.Need-returns-2
 returns-2 c = search needs
 
-pub end-line-spec : {M : Type 1} → statement M
-end-line-spec =
+pub run-read-spec : {M : Type 1} → statement M
+run-read-spec =
     tie.close
     (tie.spec
-    plus-requires
-    complain-requires
+    run-too-long-requires
     same-length
     returns
     slice-aggregate-run-line

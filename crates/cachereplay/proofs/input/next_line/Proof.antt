@@ -3,23 +3,20 @@
 use mathlib.Core.Path.{_≡_}
 use lib.ListN.{length}
 use borrow.Author.Needs.{needs}
-use Rattle.cachereplay.proofs.run.Statement.{statement}
-use Rattle.cachereplay.proofs.run.Tie as tie
+use Rattle.cachereplay.proofs.input.next_line.Statement.{statement}
+use Rattle.cachereplay.proofs.input.next_line.Tie as tie
 
 abbrev Inv-loop : tie.InvT-loop
-Inv-loop line₀ out₀ replay₀ turns₀ line out replay turns = (length line ≡ length line₀) × (length out ≡ length out₀)
+Inv-loop input₀ line₀ next₀ turns₀ input line next turns = (length input ≡ length input₀) × (length line ≡ length line₀)
 
 abbrev μ-loop : tie.MeasureT-loop
-μ-loop line₀ out₀ replay₀ turns₀ line out replay turns = turns
-
-new-replay-requires : tie.Need-new-replay-requires Inv-loop μ-loop
-new-replay-requires c κs = search needs
+μ-loop input₀ line₀ next₀ turns₀ input line next turns = turns
 
 loop-holds : tie.Need-loop-holds Inv-loop μ-loop
 loop-holds c = search needs
 
-run-some-requires : tie.Need-run-some-requires Inv-loop μ-loop
-run-some-requires c κs = search needs
+read-part-requires : tie.Need-read-part-requires Inv-loop μ-loop
+read-part-requires c κs = search needs
 
 sub-turns : tie.Need-sub-turns Inv-loop μ-loop
 sub-turns c = search needs
@@ -48,15 +45,23 @@ same-length-4 c = search needs
 returns-2 : tie.Need-returns-2 Inv-loop μ-loop
 returns-2 c = search needs
 
-pub run-spec : {M : Type 1} → statement M
-run-spec =
+same-length-5 : tie.Need-same-length-5 Inv-loop μ-loop
+same-length-5 c = search needs
+
+same-length-6 : tie.Need-same-length-6 Inv-loop μ-loop
+same-length-6 c = search needs
+
+returns-3 : tie.Need-returns-3 Inv-loop μ-loop
+returns-3 c = search needs
+
+pub next-line-spec : {M : Type 1} → statement M
+next-line-spec =
     tie.close
     (tie.spec
     Inv-loop
     μ-loop
-    new-replay-requires
     loop-holds
-    run-some-requires
+    read-part-requires
     sub-turns
     loop-less
     loop-again
@@ -65,4 +70,7 @@ run-spec =
     returns
     same-length-3
     same-length-4
-    returns-2)
+    returns-2
+    same-length-5
+    same-length-6
+    returns-3)

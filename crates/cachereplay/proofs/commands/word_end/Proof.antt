@@ -3,14 +3,14 @@
 use Prim.Native.Nat.{_≤_, _-_}
 use lib.ListN.{length}
 use borrow.Author.Needs.{needs}
-use Rattle.cachereplay.proofs.line_end.Statement.{statement}
-use Rattle.cachereplay.proofs.line_end.Tie as tie
+use Rattle.cachereplay.proofs.commands.word_end.Statement.{statement}
+use Rattle.cachereplay.proofs.commands.word_end.Tie as tie
 
 abbrev Inv-loop : tie.InvT-loop
-Inv-loop input from i₀ i = from ≤ i
+Inv-loop line from i₀ i = from ≤ i
 
 abbrev μ-loop : tie.MeasureT-loop
-μ-loop input from i₀ i = length input - i
+μ-loop line from i₀ i = length line - i
 
 loop-holds : tie.Need-loop-holds Inv-loop μ-loop
 loop-holds c = search needs
@@ -33,8 +33,8 @@ returns c = search needs
 returns-2 : tie.Need-returns-2 Inv-loop μ-loop
 returns-2 c = search needs
 
-pub line-end-spec : {M : Type 1} → statement M
-line-end-spec =
+pub word-end-spec : {M : Type 1} → statement M
+word-end-spec =
     tie.close
     (tie.spec
     Inv-loop

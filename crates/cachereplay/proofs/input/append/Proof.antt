@@ -4,8 +4,8 @@ use mathlib.Core.Path.{_≡_}
 use Prim.Native.Nat.{_-_}
 use lib.ListN.{length}
 use borrow.Author.Needs.{needs}
-use Rattle.cachereplay.proofs.append.Statement.{statement}
-use Rattle.cachereplay.proofs.append.Tie as tie
+use Rattle.cachereplay.proofs.input.append.Statement.{statement}
+use Rattle.cachereplay.proofs.input.append.Tie as tie
 
 abbrev Inv-loop : tie.InvT-loop
 Inv-loop line₀ before input from to at₀ i₀ line at i = length line ≡ length line₀
