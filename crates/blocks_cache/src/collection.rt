@@ -107,8 +107,7 @@ fn bound_all(cache: Cache, given: Keys) -> Cache
         if count <= i {
             return out;
         }
-        let short = keys[i];
-        out = bound_one(out, short);
+        out = bound_one(out, keys[i]);
         i += 1;
     }
     out
@@ -211,10 +210,8 @@ fn drop_removed(data: MasterData, lowest: SeqnoOption) -> MasterData
 fn remove_masters(cache: Cache, seqno: u32) -> Cache
     ensures { λ r. ⌜ r ≡ remove-held-masters seqno cache ⌝ }
 {
-    let masters = cache.masters;
-    let group = masters.group;
-    let lowest = lowest_collated_above(group, seqno);
-    let kept = remove_collated_masters_above(masters, seqno);
+    let lowest = lowest_collated_above(cache.masters.group, seqno);
+    let kept = remove_collated_masters_above(cache.masters, seqno);
     let data = drop_removed(cache.data, lowest);
     let left = with_masters(cache, kept);
     with_data(left, data)
@@ -250,8 +247,7 @@ fn remove_all(cache: Cache, given: Keys) -> Cache
         if count <= i {
             return out;
         }
-        let short = keys[i];
-        out = remove_one(out, short);
+        out = remove_one(out, keys[i]);
         i += 1;
     }
     out
