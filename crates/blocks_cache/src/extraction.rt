@@ -542,8 +542,8 @@ pub(crate) fn extract_plain(cache: Cache, request: ExtractRequest, places: usize
         let answer = ExtractAnswer::Refused(10);
         return no_extract(answer, cache);
     }
-    match request {
-        ExtractRequest::Pop(from) => pop_plain(cache, from),
-        ExtractRequest::Sync(seqno) => sync_plain(cache, seqno),
+    if let ExtractRequest::Pop(from) = request {
+        return pop_plain(cache, from);
     }
+    sync_plain(cache, seqno)
 }
