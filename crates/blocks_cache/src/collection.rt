@@ -162,10 +162,8 @@ fn collect_shards(shards: [ShardGroup; 8], count: usize) -> [ShardGroup; 8]
 fn collect_cache(cache: Cache) -> Cache
     ensures { λ r. ⌜ r ≡ collect-held cache ⌝ }
 {
-    let masters = cache.masters;
-    let group = masters.group;
-    let highest = highest_below_boundary(group);
-    let kept = collect_masters(masters);
+    let highest = highest_below_boundary(cache.masters.group);
+    let kept = collect_masters(cache.masters);
     let data = drop_collected(cache.data, highest);
     let shards = cache.shards;
     let collected = collect_shards(shards, cache.shard_count);

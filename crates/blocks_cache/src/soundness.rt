@@ -97,9 +97,8 @@ fn shards_sound(shards: [ShardGroup; 8], count: usize) -> bool
 pub fn sound_cache(cache: Cache) -> bool
     ensures { λ r. ⌜ r ≡ sound-cache cache ⌝ }
 {
-    let masters = cache.masters;
-    let m = sound_master_group(masters);
-    let group = masters.group;
+    let m = sound_master_group(cache.masters);
+    let group = cache.masters.group;
     let mark = group.mark;
     let data = cache.data;
     let range = data.range;
