@@ -107,8 +107,7 @@ fn bound_all(cache: Cache, given: Keys) -> Cache
         if count <= i {
             return out;
         }
-        let short = keys[i];
-        out = bound_one(out, short);
+        out = bound_one(out, keys[i]);
         i += 1;
     }
     out
@@ -163,10 +162,8 @@ fn collect_shards(shards: [ShardGroup; 8], count: usize) -> [ShardGroup; 8]
 fn collect_cache(cache: Cache) -> Cache
     ensures { λ r. ⌜ r ≡ collect-held cache ⌝ }
 {
-    let masters = cache.masters;
-    let group = masters.group;
-    let highest = highest_below_boundary(group);
-    let kept = collect_masters(masters);
+    let highest = highest_below_boundary(cache.masters.group);
+    let kept = collect_masters(cache.masters);
     let data = drop_collected(cache.data, highest);
     let shards = cache.shards;
     let collected = collect_shards(shards, cache.shard_count);
@@ -211,10 +208,8 @@ fn drop_removed(data: MasterData, lowest: SeqnoOption) -> MasterData
 fn remove_masters(cache: Cache, seqno: u32) -> Cache
     ensures { λ r. ⌜ r ≡ remove-held-masters seqno cache ⌝ }
 {
-    let masters = cache.masters;
-    let group = masters.group;
-    let lowest = lowest_collated_above(group, seqno);
-    let kept = remove_collated_masters_above(masters, seqno);
+    let lowest = lowest_collated_above(cache.masters.group, seqno);
+    let kept = remove_collated_masters_above(cache.masters, seqno);
     let data = drop_removed(cache.data, lowest);
     let left = with_masters(cache, kept);
     with_data(left, data)
@@ -250,8 +245,7 @@ fn remove_all(cache: Cache, given: Keys) -> Cache
         if count <= i {
             return out;
         }
-        let short = keys[i];
-        out = remove_one(out, short);
+        out = remove_one(out, keys[i]);
         i += 1;
     }
     out

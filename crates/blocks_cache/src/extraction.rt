@@ -155,9 +155,8 @@ fn group_seqnos(group: Group) -> GroupSeqnos
     let count = listed_count(group.count, 16);
     let mut i: usize = 0;
     while i < count {
-        let entry = group.entries[i];
         entries[i] = EntrySeqno {
-            seqno: entry.block_id.seqno,
+            seqno: group.entries[i].block_id.seqno,
             cached: true,
         };
         i += 1;
@@ -233,8 +232,7 @@ fn lookup(idents: [ShardIdent; 8], seqnos: [GroupSeqnos; 8], id: BlockId) -> Blo
     let Found::At(at) = shard_place(idents, shard) else {
         return BlockPlace::Absent;
     };
-    let group = seqnos[at];
-    let Found::At(entry) = seqno_place(group, id.seqno) else {
+    let Found::At(entry) = seqno_place(seqnos[at], id.seqno) else {
         return BlockPlace::Absent;
     };
     BlockPlace::At(at, entry)
@@ -307,9 +305,7 @@ fn compact_shards(shards: [ShardGroup; 8], seqnos: [GroupSeqnos; 8]) -> [ShardGr
     let mut out = shards;
     let mut i: usize = 0;
     while i < 8 {
-        let held = shards[i];
-        let group = seqnos[i];
-        out[i] = compact_shard(held, group);
+        out[i] = compact_shard(shards[i], seqnos[i]);
         i += 1;
     }
     out
@@ -324,8 +320,7 @@ fn last_first(blocks: [BlockCacheEntry; 128], count: usize) -> [BlockCacheEntry;
     let mut out = [zero; 128];
     let mut j: usize = 0;
     while j < count {
-        let block = blocks[count - 1 - j];
-        out[j] = block;
+        out[j] = blocks[count - 1 - j];
         j += 1;
     }
     out
@@ -473,23 +468,21 @@ fn pop_plain(cache: Cache, from: u32) -> PlainExtract
     requires { ⌜ sound-cache cache ≡ true ⌝ }
     ensures { λ r. ⌜ r ≡ pop-plain (first-applied from (view cache)) (view cache) ⌝ }
 {
-    let masters = cache.masters;
-    let first = first_applied_master(masters, from);
+    let first = first_applied_master(cache.masters, from);
     let found = first.found;
     let Found::At(at) = found else {
         let answer = ExtractAnswer::Refused(11);
         return no_extract(answer, cache);
     };
-    let master = first.block;
-    let seqno = master.entry.block_id.seqno;
-    let above = applied_above(masters.group, seqno);
+    let seqno = first.block.entry.block_id.seqno;
+    let above = applied_above(cache.masters.group, seqno);
     let answer = ExtractAnswer::Popped { last: !above };
-    let extraction = extract(cache, master);
-    let left = remove_master(masters, seqno);
+    let extraction = extract(cache, first.block);
+    let left = remove_master(cache.masters, seqno);
     let data = cache.data;
     let old = data.range;
     let range = move_range_start(seqno, old);
-    hand_out(cache, answer, master, left, range, extraction)
+    hand_out(cache, answer, first.block, left, range, extraction)
 }
 
 // If M is applied, the start moves by it.
@@ -507,22 +500,20 @@ fn sync_plain(cache: Cache, seqno: u32) -> PlainExtract
     requires { ⌜ sound-cache cache ≡ true ⌝ }
     ensures { λ r. ⌜ r ≡ sync-plain (at-seqno seqno (view cache .masters .entries)) (view cache) ⌝ }
 {
-    let masters = cache.masters;
-    let there = master_at(masters, seqno);
+    let there = master_at(cache.masters, seqno);
     let found = there.found;
     let Found::At(at) = found else {
         let answer = ExtractAnswer::AlreadyExtracted;
         return no_extract(answer, cache);
     };
-    let master = there.block;
     let answer = ExtractAnswer::Extracted;
-    let extraction = extract(cache, master);
-    let removed = remove_master(masters, master.entry.block_id.seqno);
-    let left = refresh_masters(removed, master.entry.block_id.seqno);
+    let extraction = extract(cache, there.block);
+    let removed = remove_master(cache.masters, there.block.entry.block_id.seqno);
+    let left = refresh_masters(removed, there.block.entry.block_id.seqno);
     let data = cache.data;
     let old = data.range;
-    let range = move_applied_start(old, master);
-    hand_out(cache, answer, master, left, range, extraction)
+    let range = move_applied_start(old, there.block);
+    hand_out(cache, answer, there.block, left, range, extraction)
 }
 
 fn request_seqno(request: ExtractRequest) -> u32
@@ -551,8 +542,8 @@ pub(crate) fn extract_plain(cache: Cache, request: ExtractRequest, places: usize
         let answer = ExtractAnswer::Refused(10);
         return no_extract(answer, cache);
     }
-    match request {
-        ExtractRequest::Pop(from) => pop_plain(cache, from),
-        ExtractRequest::Sync(seqno) => sync_plain(cache, seqno),
+    if let ExtractRequest::Pop(from) = request {
+        return pop_plain(cache, from);
     }
+    sync_plain(cache, seqno)
 }

@@ -156,21 +156,19 @@ fn view_tops(cache: Cache, seqno: u32, tops: TopBlocks) -> TopRows
 fn peek_master(cache: Cache, from: u32) -> Peek
     ensures { λ r. ⌜ r ≡ peek-held from cache ⌝ }
 {
-    let masters = cache.masters;
-    let at = first_applied_master(masters, from);
+    let at = first_applied_master(cache.masters, from);
     let found = at.found;
     let Found::At(_) = found else {
         return zero_peek(PeekAnswer::Nothing);
     };
-    let block = at.block;
-    let entry = block.entry;
+    let entry = at.block.entry;
     let id = entry.block_id;
     let master = PeekRow {
         block_id: id,
         ref_by_mc_seqno: entry.ref_by_mc_seqno,
         payload: entry.payload,
     };
-    let view = view_tops(cache, id.seqno, block.tops);
+    let view = view_tops(cache, id.seqno, at.block.tops);
     let rows = view.rows;
     let missing = view.gap;
     Peek {

@@ -50,8 +50,7 @@ fn insert_shard(groups: [ShardGroup; 8], count: usize, at: usize, group: ShardGr
     let mut out = groups;
     let mut j: usize = count;
     while at < j {
-        let x = out[j - 1];
-        out[j] = x;
+        out[j] = out[j - 1];
         j -= 1;
     }
     out[at] = group;

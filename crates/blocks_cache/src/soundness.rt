@@ -39,8 +39,7 @@ fn shards_zero(shards: [ShardGroup; 8], from: usize) -> bool
 {
     let mut i: usize = from;
     while i < 8 {
-        let group = shards[i];
-        if !shard_group_zero(group) {
+        if !shard_group_zero(shards[i]) {
             return false;
         }
         i += 1;
@@ -56,8 +55,7 @@ fn shards_all_sound(shards: [ShardGroup; 8], count: usize) -> bool
         if count <= i {
             return true;
         }
-        let group = shards[i];
-        if !shard_group_sound(group) {
+        if !shard_group_sound(shards[i]) {
             return false;
         }
         i += 1;
@@ -99,9 +97,8 @@ fn shards_sound(shards: [ShardGroup; 8], count: usize) -> bool
 pub fn sound_cache(cache: Cache) -> bool
     ensures { λ r. ⌜ r ≡ sound-cache cache ⌝ }
 {
-    let masters = cache.masters;
-    let m = sound_master_group(masters);
-    let group = masters.group;
+    let m = sound_master_group(cache.masters);
+    let group = cache.masters.group;
     let mark = group.mark;
     let data = cache.data;
     let range = data.range;

@@ -255,10 +255,10 @@ pub fn store_collated(cache: Cache, candidate: BlockCandidate) -> BlockCacheStor
         return nothing_stored(cache, StoreAnswer::Refused(1));
     }
     let refusal = candidate_refusal(candidate);
-    match refusal {
-        Refusal::Number(number) => nothing_stored(cache, StoreAnswer::Refused(number)),
-        Refusal::Absent => store_candidate(cache, candidate),
+    if let Refusal::Number(number) = refusal {
+        return nothing_stored(cache, StoreAnswer::Refused(number));
     }
+    store_candidate(cache, candidate)
 }
 
 // ===== the received store =====
@@ -334,8 +334,8 @@ pub fn store_received(cache: Cache, received: ReceivedBlock) -> BlockCacheStoreR
         return nothing_stored(cache, StoreAnswer::Refused(1));
     }
     let refusal = received_refusal(received);
-    match refusal {
-        Refusal::Number(number) => nothing_stored(cache, StoreAnswer::Refused(number)),
-        Refusal::Absent => store_receipt(cache, received),
+    if let Refusal::Number(number) = refusal {
+        return nothing_stored(cache, StoreAnswer::Refused(number));
     }
+    store_receipt(cache, received)
 }

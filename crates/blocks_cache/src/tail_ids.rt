@@ -430,14 +430,12 @@ fn read_tails(cache: Cache, seqno: u32) -> TailIds
     if seqno <= cache.zerostate_mc_seqno {
         return no_tails(TailAnswer::Rows);
     }
-    let masters = cache.masters;
-    let at = master_at(masters, seqno);
+    let at = master_at(cache.masters, seqno);
     let found = at.found;
     let Found::At(_) = found else {
         return no_tails(TailAnswer::Refused(12));
     };
-    let block = at.block;
-    let tails = block_tails(cache, block);
+    let tails = block_tails(cache, at.block);
     TailIds {
         answer: TailAnswer::Rows,
         tails,

@@ -121,8 +121,7 @@ fn validated_kind(status: ValidationStatus, data: BlockCacheEntryData) -> Valida
 fn validate_master(cache: Cache, seqno: u32, status: ValidationStatus) -> ValidationResult
     ensures { λ r. ⌜ r ≡ validate-master seqno (view-validation status) cache ⌝ }
 {
-    let masters = cache.masters;
-    let at = master_at(masters, seqno);
+    let at = master_at(cache.masters, seqno);
     let found = at.found;
     let Found::At(_) = found else {
         return ValidationResult {
@@ -130,8 +129,7 @@ fn validate_master(cache: Cache, seqno: u32, status: ValidationStatus) -> Valida
             cache,
         };
     };
-    let block = at.block;
-    let entry = block.entry;
+    let entry = at.block.entry;
     let data = entry.data;
     let kind = validated_kind(status, data);
     if !kind.changed {
@@ -142,8 +140,8 @@ fn validate_master(cache: Cache, seqno: u32, status: ValidationStatus) -> Valida
     }
     let set = kind.data;
     let entry = with_data(entry, set);
-    let tops = block.tops;
-    let masters = put_master(masters, MasterBlock { entry, tops });
+    let tops = at.block.tops;
+    let masters = put_master(cache.masters, MasterBlock { entry, tops });
     let cache = with_masters(cache, masters);
     let new = result_status(status);
     ValidationResult {

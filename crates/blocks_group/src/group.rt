@@ -1,8 +1,9 @@
 // Document 01, Group: up to 16 entries by rising seqno. The master group has its blocks' top items beside it, in the same places.
 ghost use mathlib.Core.Path.{_≡_};
 ghost use mathlib.Core.Bool.{false};
-ghost use lib.ListN.{length, take};
-ghost use Rattle.block_records.specs.Zeros.{zero-tops};
+ghost use Prim.Native.Nat.{_<_};
+ghost use lib.ListN.{getD, length, take};
+ghost use Rattle.block_records.specs.Zeros.{zero-entry, zero-tops};
 ghost use Rattle.block_records.specs.Lists.{each, padded};
 ghost use Rattle.blocks_group.specs.Search.{place};
 ghost use Rattle.blocks_group.specs.GroupLayout.{zero-group, zero-master-group};
@@ -110,23 +111,34 @@ pub fn entry_at(group: Group, seqno: u32) -> EntryAt
         let zero = zero_entry();
         return EntryAt { found, entry: zero };
     };
-    let entry = group.entries[at];
-    EntryAt { found, entry }
+    EntryAt {
+        found,
+        entry: group.entries[at],
+    }
+}
+
+// The master block of a place.
+pub(crate) fn master_in_place(masters: MasterGroup, at: usize) -> MasterBlock
+    requires { ⌜ at < 16 ⌝ }
+    ensures { λ r. ⌜ r ≡ record { entry = getD (masters .group .entries) at zero-entry; tops = getD (masters .tops) at zero-tops } ⌝ }
+{
+    let group = masters.group;
+    MasterBlock {
+        entry: group.entries[at],
+        tops: masters.tops[at],
+    }
 }
 
 // The master block at a seqno.
 pub fn master_at(masters: MasterGroup, seqno: u32) -> MasterAt
     ensures { λ r. ⌜ r ≡ master-at seqno masters ⌝ }
 {
-    let group = masters.group;
-    let found = find(group, seqno);
+    let found = find(masters.group, seqno);
     let Found::At(at) = found else {
         let zero = zero_master();
         return MasterAt { found, block: zero };
     };
-    let entry = group.entries[at];
-    let tops = masters.tops[at];
-    let block = MasterBlock { entry, tops };
+    let block = master_in_place(masters, at);
     MasterAt { found, block }
 }
 
@@ -194,12 +206,9 @@ fn put_master_at(masters: MasterGroup, at: usize, from: usize, block: MasterBloc
     requires { ⌜ Splices 16 at from (length (listed-entries (masters .group))) ⌝ }
     ensures { λ r. ⌜ r ≡ with-masters (spliced at from block (listed-masters masters)) masters ⌝ }
 {
-    let group = masters.group;
-    let entry = block.entry;
-    let put = put_entry_at(group, at, from, entry);
+    let put = put_entry_at(masters.group, at, from, block.entry);
     let tops = masters.tops;
-    let new = block.tops;
-    let put_tops = put_tops_at(tops, group.count, at, from, new);
+    let put_tops = put_tops_at(tops, masters.group.count, at, from, block.tops);
     MasterGroup {
         group: put,
         tops: put_tops,
@@ -226,8 +235,7 @@ pub fn put_entry(group: Group, entry: BlockCacheEntry) -> Group
 pub fn put_master(masters: MasterGroup, block: MasterBlock) -> MasterGroup
     ensures { λ r. ⌜ r ≡ put-master block masters ⌝ }
 {
-    let group = masters.group;
-    let found = find(group, block.entry.block_id.seqno);
+    let found = find(masters.group, block.entry.block_id.seqno);
     match found {
         Found::At(at) => put_master_at(masters, at, at + 1, block),
         Found::Vacant(at) => {
@@ -260,8 +268,7 @@ fn keep_flags(group: Group, rule: Retained) -> [bool; 16]
     let mut keep = [false; 16];
     let mut i: usize = 0;
     while i < count {
-        let entry = group.entries[i];
-        keep[i] = retains(rule, entry);
+        keep[i] = retains(rule, group.entries[i]);
         i += 1;
     }
     keep
@@ -322,9 +329,8 @@ pub fn retain_entries(group: Group, rule: Retained) -> Group
 pub fn retain_masters(masters: MasterGroup, rule: Retained) -> MasterGroup
     ensures { λ r. ⌜ r ≡ retain-masters rule masters ⌝ }
 {
-    let group = masters.group;
-    let keep = keep_flags(group, rule);
-    let kept = compact_entries(group, keep);
+    let keep = keep_flags(masters.group, rule);
+    let kept = compact_entries(masters.group, keep);
     let tops = masters.tops;
     let kept_tops = compact_tops(tops, keep);
     MasterGroup {

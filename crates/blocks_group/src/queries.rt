@@ -12,11 +12,11 @@ use crate::group::Group;
 use crate::group::MasterAt;
 use crate::group::MasterGroup;
 use crate::group::Retained;
+use crate::group::master_in_place;
 use crate::group::retain_entries;
 use crate::group::retain_masters;
 use crate::search::Found;
 use block_records::entry::BlockCacheEntry;
-use block_records::entry::MasterBlock;
 use block_records::entry::is_applied;
 use block_records::entry::is_received;
 use block_records::entry::zero_master;
@@ -53,8 +53,7 @@ fn first_applied_place(group: Group, from: u32) -> Found
         if count <= i {
             return Found::Vacant(i);
         }
-        let entry = group.entries[i];
-        if is_applied_from(entry, from) {
+        if is_applied_from(group.entries[i], from) {
             return Found::At(i);
         }
         i += 1;
@@ -66,15 +65,12 @@ fn first_applied_place(group: Group, from: u32) -> Found
 pub fn first_applied_master(masters: MasterGroup, from: u32) -> MasterAt
     ensures { λ r. ⌜ r ≡ first-applied-master from masters ⌝ }
 {
-    let group = masters.group;
-    let found = first_applied_place(group, from);
+    let found = first_applied_place(masters.group, from);
     let Found::At(at) = found else {
         let zero = zero_master();
         return MasterAt { found, block: zero };
     };
-    let entry = group.entries[at];
-    let tops = masters.tops[at];
-    let block = MasterBlock { entry, tops };
+    let block = master_in_place(masters, at);
     MasterAt { found, block }
 }
 
@@ -88,8 +84,7 @@ pub fn applied_above(group: Group, seqno: u32) -> bool
         if count <= i {
             return false;
         }
-        let entry = group.entries[i];
-        if is_applied_above(entry, seqno) {
+        if is_applied_above(group.entries[i], seqno) {
             return true;
         }
         i += 1;
@@ -210,8 +205,7 @@ pub fn lowest_collated_above(group: Group, seqno: u32) -> SeqnoOption
         if count <= i {
             return best;
         }
-        let entry = group.entries[i];
-        best = lower_collated(best, entry, seqno);
+        best = lower_collated(best, group.entries[i], seqno);
         i += 1;
     }
     best

@@ -59,9 +59,7 @@ fn masters_sound(group: Group, tops: [TopBlocks; 16]) -> bool
         if count <= i {
             return true;
         }
-        let entry = group.entries[i];
-        let items = tops[i];
-        if !master_sound(entry, items) {
+        if !master_sound(group.entries[i], tops[i]) {
             return false;
         }
         i += 1;
@@ -98,8 +96,7 @@ fn entries_zero(group: Group) -> bool
 {
     let mut i: usize = group.count;
     while i < 16 {
-        let entry = group.entries[i];
-        if !is_zero_entry(entry) {
+        if !is_zero_entry(group.entries[i]) {
             return false;
         }
         i += 1;
@@ -112,8 +109,7 @@ fn tops_zero(tops: [TopBlocks; 16], from: usize) -> bool
 {
     let mut i: usize = from;
     while i < 16 {
-        let items = tops[i];
-        if !is_zero_tops(items) {
+        if !is_zero_tops(tops[i]) {
             return false;
         }
         i += 1;

@@ -2,8 +2,11 @@
 ghost use mathlib.Core.Path.{_≡_};
 ghost use mathlib.Core.Bool.{false, true};
 ghost use mathlib.Core.Option.{none, some};
+ghost use Rattle.block_records.specs.Lists.{present};
+ghost use Rattle.block_records.specs.Zeros.{zero-tops};
 ghost use Rattle.blocks_group.specs.GroupArrays.{when-found};
-ghost use Rattle.blocks_group.specs.GroupRules.{collated-kind, received-kind};
+ghost use Rattle.blocks_group.specs.GroupLayout.{view-mark};
+ghost use Rattle.blocks_group.specs.GroupRules.{collated-kind, given-mark, received-kind};
 ghost use Rattle.blocks_group.specs.GroupStores.{pack-step, refused-step, stored-step, with-block-data, collated-step, received-step};
 ghost use Rattle.blocks_group.specs.GroupStores.{store-collated-block, store-collated-master, store-received-block, store-received-master};
 use crate::group::Group;
@@ -19,6 +22,7 @@ use crate::search::Found;
 use block_records::block_id::id_shard;
 use block_records::block_id::is_masterchain;
 use block_records::block_id::same_id;
+use block_records::entry::BlockCacheEntry;
 use block_records::entry::BlockCacheEntryData;
 use block_records::entry::CandidateStatus;
 use block_records::entry::MasterBlock;
@@ -210,16 +214,32 @@ fn received_step(
     stored_step(true, false, synced)
 }
 
+// ===== the stores =====
+
+// Whether the mark's rule gives a mark of this group.
+fn synced_in(group: Group, seqno: u32) -> bool
+    ensures { λ r. ⌜ r ≡ present (given-mark seqno (view-mark (group .mark))) ⌝ }
+{
+    let mark = group.mark;
+    known_synced(seqno, mark)
+}
+
 // ===== a shard's group =====
+
+// A shard's entry as the steps take it: it has no top items.
+fn shard_block(entry: BlockCacheEntry) -> MasterBlock
+    ensures { λ r. ⌜ r ≡ record { entry = entry; tops = zero-tops } ⌝ }
+{
+    let tops = zero_tops();
+    MasterBlock { entry, tops }
+}
 
 pub fn store_collated_block(group: Group, c: BlockCandidate) -> GroupStore
     ensures { λ r. ⌜ r ≡ store-collated-block c group ⌝ }
 {
     let at = entry_at(group, c.block_id.seqno);
     let found = at.found;
-    let entry = at.entry;
-    let tops = zero_tops();
-    let block = MasterBlock { entry, tops };
+    let block = shard_block(at.entry);
     let room = group.count < 16;
     let step = collated_step(c, room, found, block);
     let answer = step.answer;
@@ -235,8 +255,7 @@ pub fn store_received_block(zerostate: u32, group: Group, r: ReceivedBlock) -> G
     ensures { λ s. ⌜ s ≡ store-received-block zerostate r group ⌝ }
 {
     let seqno = r.block_id.seqno;
-    let mark = group.mark;
-    if known_synced(seqno, mark) {
+    if synced_in(group, seqno) {
         return GroupStore {
             answer: StoreAnswer::Synced,
             group,
@@ -244,9 +263,7 @@ pub fn store_received_block(zerostate: u32, group: Group, r: ReceivedBlock) -> G
     }
     let at = entry_at(group, seqno);
     let found = at.found;
-    let entry = at.entry;
-    let tops = zero_tops();
-    let block = MasterBlock { entry, tops };
+    let block = shard_block(at.entry);
     let room = group.count < 16;
     let step = received_step(zerostate, r, room, found, block);
     let answer = step.answer;
@@ -268,9 +285,8 @@ pub fn store_collated_master(masters: MasterGroup, c: BlockCandidate) -> MasterS
 {
     let at = master_at(masters, c.block_id.seqno);
     let found = at.found;
-    let block = at.block;
     let room = masters.group.count < 16;
-    let step = collated_step(c, room, found, block);
+    let step = collated_step(c, room, found, at.block);
     let answer = step.answer;
     if step.changed {
         let put = put_master(masters, step.block);
@@ -287,9 +303,7 @@ pub fn store_received_master(zerostate: u32, masters: MasterGroup, r: ReceivedBl
     ensures { λ s. ⌜ s ≡ store-received-master zerostate r masters ⌝ }
 {
     let seqno = r.block_id.seqno;
-    let group = masters.group;
-    let mark = group.mark;
-    if known_synced(seqno, mark) {
+    if synced_in(masters.group, seqno) {
         return MasterStore {
             answer: StoreAnswer::Synced,
             masters,
@@ -297,9 +311,8 @@ pub fn store_received_master(zerostate: u32, masters: MasterGroup, r: ReceivedBl
     }
     let at = master_at(masters, seqno);
     let found = at.found;
-    let block = at.block;
     let room = masters.group.count < 16;
-    let step = received_step(zerostate, r, room, found, block);
+    let step = received_step(zerostate, r, room, found, at.block);
     let answer = step.answer;
     if step.changed {
         let put = put_master(masters, step.block);

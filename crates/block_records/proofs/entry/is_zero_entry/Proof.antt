@@ -19,7 +19,7 @@ is-zero-kind-requires c κs = search needs
 
 returns : tie.Need-returns
 unfolding same-entry zero-entry
-returns c = cc
+returns c = rw (c .is-zero-kind .ensures, c .before .before .before .is-zero-anchor .ensures, c .before .before .before .before .is-zero-prev-ids .ensures, c .before .before .before .before .before .is-zero-id .ensures)
 
 pub is-zero-entry-spec : {M : Type 1} → statement M
 is-zero-entry-spec =

@@ -13,7 +13,7 @@ is-zero-tops-requires c κs = search needs
 
 returns : tie.Need-returns
 unfolding same-master zero-master
-returns c = cc
+returns c = rw (c .is-zero-tops .ensures, c .before .is-zero-entry .ensures)
 
 pub is-zero-master-spec : {M : Type 1} → statement M
 is-zero-master-spec = tie.close (tie.spec is-zero-entry-requires is-zero-tops-requires returns)

@@ -18,7 +18,7 @@ same-kind-requires c κs = search needs
 
 returns : tie.Need-returns
 unfolding same-entry
-returns c = cc
+returns c = rw (c .same-kind .ensures, c .before .before .before .before .before .same-anchor .ensures, c .before .before .before .before .before .before .same-prev-ids .ensures, c .before .before .before .before .before .before .before .same-id .ensures)
 
 pub same-entry-spec : {M : Type 1} → statement M
 same-entry-spec =

@@ -12,7 +12,7 @@ same-tops-requires c κs = search needs
 
 returns : tie.Need-returns
 unfolding same-master
-returns c = cc
+returns c = rw (c .same-tops .ensures, c .before .same-entry .ensures)
 
 pub same-master-spec : {M : Type 1} → statement M
 same-master-spec = tie.close (tie.spec same-entry-requires same-tops-requires returns)

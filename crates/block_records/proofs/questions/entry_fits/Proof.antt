@@ -15,7 +15,7 @@ links-fit-requires c κs = search needs
 
 returns : tie.Need-returns
 unfolding held-fits
-returns c = cc
+returns c = rw (c .links-fit .ensures, c .before .counts-fit .ensures, c .before .before .seqnos-fit .ensures)
 
 pub entry-fits-spec : {M : Type 1} → statement M
 entry-fits-spec =

@@ -10,7 +10,7 @@ tops-outside-requires : tie.Need-tops-outside-requires
 tops-outside-requires c κs = search needs
 
 returns : tie.Need-returns
-returns c = cc
+returns c = rw (c .tops-outside .ensures, c .before .prev-links-fit .ensures)
 
 pub links-fit-spec : {M : Type 1} → statement M
 links-fit-spec = tie.close (tie.spec prev-links-fit-requires tops-outside-requires returns)

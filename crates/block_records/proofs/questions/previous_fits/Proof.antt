@@ -16,7 +16,7 @@ is-masterchain-requires-2 : tie.Need-is-masterchain-requires-2
 is-masterchain-requires-2 c κs = search needs
 
 returns : tie.Need-returns
-returns c = cc
+returns c = rw (c .is-masterchain2 .ensures, c .before .id-shard2 .ensures, c .before .before .is-masterchain .ensures, c .before .before .before .id-shard .ensures)
 
 pub previous-fits-spec : {M : Type 1} → statement M
 previous-fits-spec =

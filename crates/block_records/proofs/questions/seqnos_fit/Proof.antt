@@ -16,7 +16,7 @@ tops-fit-requires : tie.Need-tops-fit-requires
 tops-fit-requires c κs = search needs
 
 returns : tie.Need-returns
-returns c = cc
+returns c = rw (c .tops-fit .ensures, c .before .prev-ids-fit .ensures, c .before .before .seqno-fits .ensures, c .before .before .before .id-fits .ensures)
 
 pub seqnos-fit-spec : {M : Type 1} → statement M
 seqnos-fit-spec =

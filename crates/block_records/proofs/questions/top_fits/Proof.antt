@@ -10,7 +10,7 @@ id-fits-requires : tie.Need-id-fits-requires
 id-fits-requires c κs = search needs
 
 returns : tie.Need-returns
-returns c = cc
+returns c = rw (c .id-fits .ensures, c .before .seqno-fits .ensures)
 
 pub top-fits-spec : {M : Type 1} → statement M
 top-fits-spec = tie.close (tie.spec seqno-fits-requires id-fits-requires returns)

@@ -10,7 +10,7 @@ is-masterchain-requires : tie.Need-is-masterchain-requires
 is-masterchain-requires c κs = search needs
 
 returns : tie.Need-returns
-returns c = cc
+returns c = rw (c .is-masterchain .ensures, c .before .id-shard .ensures)
 
 pub top-outside-spec : {M : Type 1} → statement M
 top-outside-spec = tie.close (tie.spec id-shard-requires is-masterchain-requires returns)

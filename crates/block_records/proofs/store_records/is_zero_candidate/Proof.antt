@@ -19,7 +19,7 @@ is-zero-anchor-requires c κs = search needs
 
 returns : tie.Need-returns
 unfolding same-candidate zero-candidate
-returns c = cc
+returns c = rw (c .before .before .is-zero-anchor .ensures, c .before .before .before .is-zero-tops .ensures, c .before .before .before .before .is-zero-prev-ids .ensures, c .before .before .before .before .before .before .is-zero-id .ensures)
 
 pub is-zero-candidate-spec : {M : Type 1} → statement M
 is-zero-candidate-spec =

@@ -22,7 +22,7 @@ is-zero-anchor-requires c κs = search needs
 
 returns : tie.Need-returns
 unfolding same-received zero-received
-returns c = cc
+returns c = rw (c .before .is-zero-anchor .ensures, c .before .before .is-zero-tops .ensures, c .before .before .before .is-zero-prev-ids .ensures, c .before .before .before .before .is-zero-id2 .ensures, c .before .before .before .before .before .is-zero-id .ensures)
 
 pub is-zero-received-spec : {M : Type 1} → statement M
 is-zero-received-spec =

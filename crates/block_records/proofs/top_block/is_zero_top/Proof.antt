@@ -9,7 +9,7 @@ is-zero-id-requires c κs = search needs
 
 returns : tie.Need-returns
 unfolding zero-top
-returns c = cc
+returns c = rw (c .before .is-zero-id .ensures)
 
 pub is-zero-top-spec : {M : Type 1} → statement M
 is-zero-top-spec = tie.close (tie.spec is-zero-id-requires returns)

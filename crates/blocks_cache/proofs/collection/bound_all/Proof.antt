@@ -28,11 +28,11 @@ loop-holds c = (search needs, rw sub-zero)
 returns : tie.Need-returns Inv-loop μ-loop
 returns c = let h = c .before .before in let s = h .before .before in sym (h .loop .inv .1 ∙ keys-passed bound-held (s .args .given .keys) _ _ (h .loop .out) (c .if1 .taken))
 
-mul-short : tie.Need-mul-short Inv-loop μ-loop
-mul-short c = search needs
+mul-bound-one : tie.Need-mul-bound-one Inv-loop μ-loop
+mul-bound-one c = search needs
 
-array-copy-out-short : tie.Need-array-copy-out-short Inv-loop μ-loop
-array-copy-out-short c = search needs
+array-copy-out-bound-one : tie.Need-array-copy-out-bound-one Inv-loop μ-loop
+array-copy-out-bound-one c = search needs
 
 bound-one-requires : tie.Need-bound-one-requires Inv-loop μ-loop
 bound-one-requires c κs = search needs
@@ -68,8 +68,8 @@ bound-all-spec =
     μ-loop
     loop-holds
     returns
-    mul-short
-    array-copy-out-short
+    mul-bound-one
+    array-copy-out-bound-one
     bound-one-requires
     add-i
     loop-less

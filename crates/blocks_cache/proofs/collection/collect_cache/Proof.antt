@@ -18,7 +18,7 @@ collect-shards-requires : tie.Need-collect-shards-requires
 collect-shards-requires c κs = search needs
 
 returns : tie.Need-returns
-returns c = let s = c .before .before .before .before .before .before .before in collect-made (s .args .cache) _ _ _ _ (c .before .before .before .before .highest-below-boundary .ensures) (c .before .before .before .collect-masters .ensures) (c .before .before .drop-collected .ensures) (c .collect-shards .ensures)
+returns c = let s = c .before .before .before .before .before in collect-made (s .args .cache) _ _ _ _ (c .before .before .before .before .highest-below-boundary .ensures) (c .before .before .before .collect-masters .ensures) (c .before .before .drop-collected .ensures) (c .collect-shards .ensures)
 
 pub collect-cache-spec : {M : Type 1} → statement M
 collect-cache-spec =

@@ -28,11 +28,11 @@ loop-holds c = (search needs, rw sub-zero)
 returns : tie.Need-returns Inv-loop μ-loop
 returns c = let h = c .before .before in let s = h .before .before in sym (h .loop .inv .1 ∙ keys-passed remove-held (s .args .given .keys) _ _ (h .loop .out) (c .if1 .taken))
 
-mul-short : tie.Need-mul-short Inv-loop μ-loop
-mul-short c = search needs
+mul-remove-one : tie.Need-mul-remove-one Inv-loop μ-loop
+mul-remove-one c = search needs
 
-array-copy-out-short : tie.Need-array-copy-out-short Inv-loop μ-loop
-array-copy-out-short c = search needs
+array-copy-out-remove-one : tie.Need-array-copy-out-remove-one Inv-loop μ-loop
+array-copy-out-remove-one c = search needs
 
 remove-one-requires : tie.Need-remove-one-requires Inv-loop μ-loop
 remove-one-requires c κs = search needs
@@ -68,8 +68,8 @@ remove-all-spec =
     μ-loop
     loop-holds
     returns
-    mul-short
-    array-copy-out-short
+    mul-remove-one
+    array-copy-out-remove-one
     remove-one-requires
     add-i
     loop-less

@@ -21,7 +21,7 @@ with-data-requires : tie.Need-with-data-requires
 with-data-requires c κs = search needs
 
 returns : tie.Need-returns
-returns c = let s = c .before .before .before .before .before .before .before in remove-made (s .args .seqno) (s .args .cache) _ _ _ _ (c .before .before .before .before .lowest-collated-above .ensures) (c .before .before .before .remove-collated-masters-above .ensures) (c .before .before .drop-removed .ensures) _ (c .before .with-masters .ensures) (c .with-data .ensures)
+returns c = let s = c .before .before .before .before .before in remove-made (s .args .seqno) (s .args .cache) _ _ _ _ (c .before .before .before .before .lowest-collated-above .ensures) (c .before .before .before .remove-collated-masters-above .ensures) (c .before .before .drop-removed .ensures) _ (c .before .with-masters .ensures) (c .with-data .ensures)
 
 pub remove-masters-spec : {M : Type 1} → statement M
 remove-masters-spec =

@@ -7,7 +7,7 @@ compact-group-requires : tie.Need-compact-group-requires
 compact-group-requires c κs = search needs
 
 returns : tie.Need-returns
-returns c = cc
+returns c = let s = c .before .before in λ i. record { shard = s .args .held .shard; group = c .before .compact-group .ensures i }
 
 pub compact-shard-spec : {M : Type 1} → statement M
 compact-shard-spec = tie.close (tie.spec compact-group-requires returns)

@@ -28,17 +28,17 @@ tables c = search (needs, length-mapped)
 loop-holds : tie.Need-loop-holds Inv-loop μ-loop
 loop-holds c = (search needs, refl)
 
-mul-held : tie.Need-mul-held Inv-loop μ-loop
-mul-held c = search needs
+mul-compact-shard : tie.Need-mul-compact-shard Inv-loop μ-loop
+mul-compact-shard c = search needs
 
-array-copy-out-held : tie.Need-array-copy-out-held Inv-loop μ-loop
-array-copy-out-held c = search needs
+array-copy-out-compact-shard : tie.Need-array-copy-out-compact-shard Inv-loop μ-loop
+array-copy-out-compact-shard c = search needs
 
-mul-group : tie.Need-mul-group Inv-loop μ-loop
-mul-group c = search needs
+mul-compact-shard-2 : tie.Need-mul-compact-shard-2 Inv-loop μ-loop
+mul-compact-shard-2 c = search needs
 
-array-copy-out-group : tie.Need-array-copy-out-group Inv-loop μ-loop
-array-copy-out-group c = search needs
+array-copy-out-compact-shard-2 : tie.Need-array-copy-out-compact-shard-2 Inv-loop μ-loop
+array-copy-out-compact-shard-2 c = search needs
 
 compact-shard-requires : tie.Need-compact-shard-requires Inv-loop μ-loop
 compact-shard-requires c κs = search needs
@@ -81,10 +81,10 @@ compact-shards-spec =
     Inv-loop
     μ-loop
     loop-holds
-    mul-held
-    array-copy-out-held
-    mul-group
-    array-copy-out-group
+    mul-compact-shard
+    array-copy-out-compact-shard
+    mul-compact-shard-2
+    array-copy-out-compact-shard-2
     compact-shard-requires
     mul-out
     array-set-from-out

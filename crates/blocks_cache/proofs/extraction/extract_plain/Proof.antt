@@ -1,11 +1,14 @@
 -- Each return is a case of the definition.
 -- Assumes nothing.
 use mathlib.Core.Path.{_≡_, sym, ap, _∙_}
+use Prim.Native.Nat.{ℕ}
 use borrow.Author.Needs.{needs}
 use borrow.Author.Tests.{not-true, not-false}
 use Rattle.block_records.specs.Questions.{seqno-fits}
 use Rattle.blocks_cache.specs.declared.extraction.ExtractRequest.{ExtractRequest}
-use Rattle.blocks_cache.specs.Subgraphs.{plain-extract, request-seqno}
+use Rattle.blocks_group.specs.GroupRules.{at-seqno}
+use Rattle.blocks_cache.specs.CacheLayout.{view}
+use Rattle.blocks_cache.specs.Subgraphs.{plain-extract, request-seqno, sync-plain}
 use Rattle.blocks_cache.proofs.SubgraphLaws.{plain-pops, plain-short, plain-syncs, plain-unfit, plain-unsound}
 use Rattle.blocks_cache.proofs.extraction.extract_plain.Statement.{statement}
 use Rattle.blocks_cache.proofs.extraction.extract_plain.Tie as tie
@@ -66,15 +69,6 @@ pop-plain-requires c κs =
     let v = i .before in
     sym (v .sound-cache .ensures) ∙ not-false (v .sound-cache .result) (i .if1 .left)
 
-enum-known-request-2 : tie.Need-enum-known-request-2
-enum-known-request-2 c = search needs
-
-sync-plain-requires : tie.Need-sync-plain-requires
-sync-plain-requires c κs =
-    let i = c .before .before .before .before .before .before .before in
-    let v = i .before in
-    sym (v .sound-cache .ensures) ∙ not-false (v .sound-cache .result) (i .if1 .left)
-
 returns-4 : tie.Need-returns-4
 returns-4 c =
     let r = c .before .before in
@@ -90,9 +84,18 @@ returns-4 c =
     (sym (f .seqno-fits .ensures ∙ ap seqno-fits (q .request-seqno .ensures ∙ ap request-seqno e)) ∙ not-false (f .seqno-fits .result) (j .if2 .left)) (k .if3 .left) _ (c .pop-plain .ensures)
     ∙ sym (ap (λ (x : ExtractRequest). plain-extract (s .args .cache) x (s .args .places)) e)
 
+enum-told : tie.Need-enum-told
+enum-told c = search needs
+
+sync-plain-requires : tie.Need-sync-plain-requires
+sync-plain-requires c κs =
+    let i = c .before .before .before .before .before .before in
+    let v = i .before in
+    sym (v .sound-cache .ensures) ∙ not-false (v .sound-cache .result) (i .if1 .left)
+
 returns-5 : tie.Need-returns-5
 returns-5 c =
-    let r = c .before .before in
+    let r = c .before in
     let k = r .before .before in
     let j = k .before in
     let f = j .before in
@@ -100,9 +103,11 @@ returns-5 c =
     let i = q .before in
     let v = i .before in
     let s = v .before in
-    let e = r .request2 .given .1 in
+    let e = r .enum-told .given .1 in
+    let n = q .request-seqno .ensures ∙ ap request-seqno e in
     plain-syncs (s .args .cache) (s .args .places) (sym (v .sound-cache .ensures) ∙ not-false (v .sound-cache .result) (i .if1 .left)) _
-    (sym (f .seqno-fits .ensures ∙ ap seqno-fits (q .request-seqno .ensures ∙ ap request-seqno e)) ∙ not-false (f .seqno-fits .result) (j .if2 .left)) (k .if3 .left) _ (c .sync-plain .ensures)
+    (sym (f .seqno-fits .ensures ∙ ap seqno-fits n) ∙ not-false (f .seqno-fits .result) (j .if2 .left)) (k .if3 .left) _
+    (c .sync-plain .ensures ∙ ap (λ (m : ℕ). sync-plain (at-seqno m (view (s .args .cache) .masters .entries)) (view (s .args .cache))) n)
     ∙ sym (ap (λ (x : ExtractRequest). plain-extract (s .args .cache) x (s .args .places)) e)
 
 pub extract-plain-spec : {M : Type 1} → statement M
@@ -120,7 +125,7 @@ extract-plain-spec =
     returns-3
     enum-known-request
     pop-plain-requires
-    enum-known-request-2
-    sync-plain-requires
     returns-4
+    enum-told
+    sync-plain-requires
     returns-5)

@@ -28,11 +28,11 @@ loop-holds : tie.Need-loop-holds Inv-loop μ-loop
 unfolding no-seqno-here
 loop-holds c = (search needs, rw (c .listed-count .ensures) (within-few 16 (c .before .args .t1 .count)), sym (padded-nil 16 no-seqno-here))
 
-mul-entry : tie.Need-mul-entry Inv-loop μ-loop
-mul-entry c = search needs
+mul-t10 : tie.Need-mul-t10 Inv-loop μ-loop
+mul-t10 c = search needs
 
-element-copy-out-entry : tie.Need-element-copy-out-entry Inv-loop μ-loop
-element-copy-out-entry c = search needs
+element-copy-out-t13 : tie.Need-element-copy-out-t13 Inv-loop μ-loop
+element-copy-out-t13 c = search needs
 
 mul-entries : tie.Need-mul-entries Inv-loop μ-loop
 mul-entries c = search needs
@@ -48,12 +48,12 @@ loop-less c = search needs
 
 loop-again : tie.Need-loop-again Inv-loop μ-loop
 loop-again c =
-    let h = c .before .before in
+    let h = c .before in
     let s = h .before .before in
     let l = len s in (
       search needs,
       h .loop .inv .1,
-      each-next seqno-here 16 no-seqno-here _ (s .args .t1 .entries) (h .loop .entries) (h .loop .i) (omega arith) (h .loop .inv .1) (h .loop .inv .2) _ _ refl (c .before .loop-test .taken),
+      each-next seqno-here 16 no-seqno-here _ (s .args .t1 .entries) (h .loop .entries) (h .loop .i) (omega arith) (h .loop .inv .1) (h .loop .inv .2) _ _ refl (c .loop-test .taken),
     )
 
 returns : tie.Need-returns Inv-loop μ-loop
@@ -78,8 +78,8 @@ group-seqnos-spec =
     μ-loop
     listed-count-requires
     loop-holds
-    mul-entry
-    element-copy-out-entry
+    mul-t10
+    element-copy-out-t13
     mul-entries
     array-set-from-entries
     add-i

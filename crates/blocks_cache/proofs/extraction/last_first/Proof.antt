@@ -28,20 +28,20 @@ zero-entry-requires c κs = search needs
 loop-holds : tie.Need-loop-holds Inv-loop μ-loop
 loop-holds c = (search needs, rw (c .zero-entry .ensures) (back-start 128 zero-entry (c .before .args .t1) (c .before .args .count)))
 
-sub-block : tie.Need-sub-block Inv-loop μ-loop
-sub-block c = search needs
+sub-out : tie.Need-sub-out Inv-loop μ-loop
+sub-out c = search needs
 
-sub-block-2 : tie.Need-sub-block-2 Inv-loop μ-loop
-sub-block-2 c = search needs
-
-mul-block : tie.Need-mul-block Inv-loop μ-loop
-mul-block c = search needs
-
-array-copy-out-block : tie.Need-array-copy-out-block Inv-loop μ-loop
-array-copy-out-block c = search needs
+sub-out-2 : tie.Need-sub-out-2 Inv-loop μ-loop
+sub-out-2 c = search needs
 
 mul-out : tie.Need-mul-out Inv-loop μ-loop
 mul-out c = search needs
+
+array-copy-out-out : tie.Need-array-copy-out-out Inv-loop μ-loop
+array-copy-out-out c = search needs
+
+mul-out-2 : tie.Need-mul-out-2 Inv-loop μ-loop
+mul-out-2 c = search needs
 
 array-set-from-out : tie.Need-array-set-from-out Inv-loop μ-loop
 array-set-from-out c = search needs
@@ -74,11 +74,11 @@ last-first-spec =
     μ-loop
     zero-entry-requires
     loop-holds
-    sub-block
-    sub-block-2
-    mul-block
-    array-copy-out-block
+    sub-out
+    sub-out-2
     mul-out
+    array-copy-out-out
+    mul-out-2
     array-set-from-out
     add-j
     loop-less

@@ -34,16 +34,16 @@ returns c =
     let s = u .before in
     no-shard-there (s .args .id) (s .args .idents) (s .args .t2) _ (u .id-shard .ensures) _ (sym (v .shard-place .ensures) ∙ c .enum-told .given .1)
 
-mul-group : tie.Need-mul-group
-mul-group c =
+mul-seqno-place : tie.Need-mul-seqno-place
+mul-seqno-place c =
     let w = c .before in
     let v = w .before .before in
     let u = v .before in
     let s = u .before in
     omega (arith, idents s, shard-within (s .args .id) (s .args .idents) (s .args .t2) _ (u .id-shard .ensures) _ (sym (v .shard-place .ensures) ∙ w .at .given .1))
 
-array-copy-out-group : tie.Need-array-copy-out-group
-array-copy-out-group c =
+array-copy-out-seqno-place : tie.Need-array-copy-out-seqno-place
+array-copy-out-seqno-place c =
     let w = c .before in
     let v = w .before .before in
     let u = v .before in
@@ -91,8 +91,8 @@ lookup-spec =
     enum-known-at
     enum-told
     returns
-    mul-group
-    array-copy-out-group
+    mul-seqno-place
+    array-copy-out-seqno-place
     seqno-place-requires
     enum-known-entry
     enum-told-2

@@ -20,7 +20,7 @@ no-extract-requires c κs = search needs
 returns : tie.Need-returns
 returns c =
     let a = c .before .before .before in
-    let s = a .before .before in
+    let s = a .before in
     pop-none (s .args .cache) (s .pre) (s .args .from) (a .first-applied-master .result) (a .first-applied-master .ensures) _ (c .no-extract .result) (c .before .enum-told .given .1) (c .no-extract .ensures)
 
 applied-above-requires : tie.Need-applied-above-requires
@@ -44,9 +44,9 @@ returns-2 c =
     let g = v .before .before in
     let x = g .before in
     let u = x .before in
-    let f = u .before .before .before in
+    let f = u .before .before in
     let a = f .before .before in
-    let s = a .before .before in
+    let s = a .before in
     pop-some (s .args .cache) (s .pre) (s .args .from) (a .first-applied-master .result) (a .first-applied-master .ensures) _ _ _ _ _ (c .hand-out .result) (f .found .given .1) (u .applied-above .ensures) (x .extract .ensures) (g .remove-master .ensures) (v .move-range-start .ensures) (c .hand-out .ensures)
 
 pub pop-plain-spec : {M : Type 1} → statement M

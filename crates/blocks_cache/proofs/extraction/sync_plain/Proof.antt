@@ -20,7 +20,7 @@ no-extract-requires c κs = search needs
 returns : tie.Need-returns
 returns c =
     let a = c .before .before .before in
-    let s = a .before .before in
+    let s = a .before in
     sync-none (s .args .cache) (s .pre) (s .args .seqno) (a .master-at .result) (a .master-at .ensures) _ (c .no-extract .result) (c .before .enum-told .given .1) (c .no-extract .ensures)
 
 extract-requires : tie.Need-extract-requires
@@ -44,9 +44,9 @@ returns-2 c =
     let g = v .before .before in
     let h = g .before in
     let x = h .before in
-    let f = x .before .before .before in
+    let f = x .before .before in
     let a = f .before .before in
-    let s = a .before .before in
+    let s = a .before in
     sync-some (s .args .cache) (s .pre) (s .args .seqno) (a .master-at .result) (a .master-at .ensures) _ _ _ _ _ (c .hand-out .result) (f .found .given .1) (x .extract .ensures) (h .remove-master .ensures) (g .refresh-masters .ensures) (v .move-applied-start .ensures) (c .hand-out .ensures)
 
 pub sync-plain-spec : {M : Type 1} → statement M

@@ -18,13 +18,13 @@ zero-peek-requires : tie.Need-zero-peek-requires
 zero-peek-requires c κs = search needs
 
 returns : tie.Need-returns
-returns c = let s = c .before .before .before .before .before in peek-vacant (s .args .from) (s .args .cache) _ (c .before .before .before .first-applied-master .ensures) _ (c .before .enum-told2 .given .1) _ (c .zero-peek .ensures)
+returns c = let s = c .before .before .before .before in peek-vacant (s .args .from) (s .args .cache) _ (c .before .before .before .first-applied-master .ensures) _ (c .before .enum-told2 .given .1) _ (c .zero-peek .ensures)
 
 view-tops-requires : tie.Need-view-tops-requires
 view-tops-requires c κs = search needs
 
 returns-2 : tie.Need-returns-2
-returns-2 c = let s = c .before .before .before .before .before .before .before .before .before in peek-at (s .args .from) (s .args .cache) _ (c .before .before .before .before .before .before .before .first-applied-master .ensures) _ (c .before .before .before .before .before .enum-told .given .1) _ (c .before .view-tops .ensures)
+returns-2 c = let s = c .before .before .before .before .before .before .before in peek-at (s .args .from) (s .args .cache) _ (c .before .before .before .before .before .before .first-applied-master .ensures) _ (c .before .before .before .before .enum-told .given .1) _ (c .before .view-tops .ensures)
 
 pub peek-master-spec : {M : Type 1} → statement M
 peek-master-spec =

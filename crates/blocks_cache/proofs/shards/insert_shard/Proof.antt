@@ -24,17 +24,17 @@ loop-holds c =
     let n = long c in
     (c .pre .0, search needs, c .pre .1, n, open-start (c .args .group) (c .args .groups) (c .args .count) (omega arith))
 
-sub-x : tie.Need-sub-x Inv-loop μ-loop
-sub-x c = search needs
-
-mul-x : tie.Need-mul-x Inv-loop μ-loop
-mul-x c = search needs
-
-array-copy-out-x : tie.Need-array-copy-out-x Inv-loop μ-loop
-array-copy-out-x c = search needs
+sub-out : tie.Need-sub-out Inv-loop μ-loop
+sub-out c = search needs
 
 mul-out : tie.Need-mul-out Inv-loop μ-loop
 mul-out c = search needs
+
+array-copy-out-out : tie.Need-array-copy-out-out Inv-loop μ-loop
+array-copy-out-out c = search needs
+
+mul-out-2 : tie.Need-mul-out-2 Inv-loop μ-loop
+mul-out-2 c = search needs
 
 array-set-from-out : tie.Need-array-set-from-out Inv-loop μ-loop
 array-set-from-out c = search needs
@@ -53,8 +53,8 @@ loop-again c =
     let l = c .before .loop-test .taken in
     (search needs, search needs, k .2, k .3, open-next (s .args .group) (s .args .groups) (s .args .count) (omega arith) (h .loop .j) (h .loop .out) (k .4) _ (omega arith) (k .1))
 
-mul-out-2 : tie.Need-mul-out-2 Inv-loop μ-loop
-mul-out-2 c = search needs
+mul-out-3 : tie.Need-mul-out-3 Inv-loop μ-loop
+mul-out-3 c = search needs
 
 array-set-from-out-2 : tie.Need-array-set-from-out-2 Inv-loop μ-loop
 array-set-from-out-2 c = search needs
@@ -81,15 +81,15 @@ insert-shard-spec =
     Inv-loop
     μ-loop
     loop-holds
-    sub-x
-    mul-x
-    array-copy-out-x
+    sub-out
     mul-out
+    array-copy-out-out
+    mul-out-2
     array-set-from-out
     sub-j
     loop-less
     loop-again
-    mul-out-2
+    mul-out-3
     array-set-from-out-2
     add-t16
     returns)

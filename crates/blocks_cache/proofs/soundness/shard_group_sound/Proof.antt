@@ -10,7 +10,7 @@ sound-group-requires : tie.Need-sound-group-requires
 sound-group-requires c κs = search needs
 
 returns : tie.Need-returns
-returns c = cc
+returns c = rw (c .sound-group .ensures, c .before .is-masterchain .ensures)
 
 pub shard-group-sound-spec : {M : Type 1} → statement M
 shard-group-sound-spec = tie.close (tie.spec is-masterchain-requires sound-group-requires returns)

@@ -12,7 +12,7 @@ is-zero-group-requires c κs = search needs
 
 returns : tie.Need-returns
 unfolding same-shard-group zero-shard-group
-returns c = cc
+returns c = rw (c .is-zero-group .ensures, c .before .is-zero-shard .ensures)
 
 pub shard-group-zero-spec : {M : Type 1} → statement M
 shard-group-zero-spec = tie.close (tie.spec is-zero-shard-requires is-zero-group-requires returns)

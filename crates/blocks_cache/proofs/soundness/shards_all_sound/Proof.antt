@@ -32,11 +32,11 @@ returns c =
     let s = h .before in
     sym (h .loop .inv .1 ∙ count-passed sound-shard-group zero-shard-group (s .args .t1) _ _ (c .if1 .taken))
 
-mul-group : tie.Need-mul-group Inv-loop μ-loop
-mul-group c = search needs
+mul-shard-group-sound : tie.Need-mul-shard-group-sound Inv-loop μ-loop
+mul-shard-group-sound c = search needs
 
-array-copy-out-group : tie.Need-array-copy-out-group Inv-loop μ-loop
-array-copy-out-group c = search needs
+array-copy-out-shard-group-sound : tie.Need-array-copy-out-shard-group-sound Inv-loop μ-loop
+array-copy-out-shard-group-sound c = search needs
 
 shard-group-sound-requires : tie.Need-shard-group-sound-requires Inv-loop μ-loop
 shard-group-sound-requires c κs = search needs
@@ -78,4 +78,4 @@ returns-3 c =
     sym (h .loop .inv .1 ∙ count-end sound-shard-group zero-shard-group (s .args .t1) _ (h .loop .i) (omega arith))
 
 pub shards-all-sound-spec : {M : Type 1} → statement M
-shards-all-sound-spec = tie.close (tie.spec Inv-loop μ-loop loop-holds returns mul-group array-copy-out-group shard-group-sound-requires returns-2 add-i loop-less loop-again returns-3)
+shards-all-sound-spec = tie.close (tie.spec Inv-loop μ-loop loop-holds returns mul-shard-group-sound array-copy-out-shard-group-sound shard-group-sound-requires returns-2 add-i loop-less loop-again returns-3)

@@ -24,11 +24,11 @@ long c = search (needs, length-mapped)
 loop-holds : tie.Need-loop-holds Inv-loop μ-loop
 loop-holds c = search needs
 
-mul-group : tie.Need-mul-group Inv-loop μ-loop
-mul-group c = search needs
+mul-shard-group-zero : tie.Need-mul-shard-group-zero Inv-loop μ-loop
+mul-shard-group-zero c = search needs
 
-array-copy-out-group : tie.Need-array-copy-out-group Inv-loop μ-loop
-array-copy-out-group c = search needs
+array-copy-out-shard-group-zero : tie.Need-array-copy-out-shard-group-zero Inv-loop μ-loop
+array-copy-out-shard-group-zero c = search needs
 
 shard-group-zero-requires : tie.Need-shard-group-zero-requires Inv-loop μ-loop
 shard-group-zero-requires c κs = search needs
@@ -66,4 +66,4 @@ returns-2 c =
     sym (h .loop .inv ∙ rest-end is-zero-shard-group zero-shard-group (h .before .args .t1) (h .loop .i) (omega arith))
 
 pub shards-zero-spec : {M : Type 1} → statement M
-shards-zero-spec = tie.close (tie.spec Inv-loop μ-loop loop-holds mul-group array-copy-out-group shard-group-zero-requires returns add-i loop-less loop-again returns-2)
+shards-zero-spec = tie.close (tie.spec Inv-loop μ-loop loop-holds mul-shard-group-zero array-copy-out-shard-group-zero shard-group-zero-requires returns add-i loop-less loop-again returns-2)

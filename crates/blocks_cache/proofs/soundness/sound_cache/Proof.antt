@@ -28,7 +28,7 @@ shards-sound-requires c κs = search needs
 
 returns : tie.Need-returns
 returns c =
-    let s = c .before .before .before .before .before .before .before .before in
+    let s = c .before .before .before .before .before .before .before in
     rw (c .shards-sound .ensures, c .before .before .sound-ids .ensures, c .before .before .before .range-sound .ensures, c .before .before .before .before .before .before .sound-master-group .ensures)
     (sym (sound-cache-parts (s .args .cache) (long-ids s) (long-shards s)))
 

@@ -35,12 +35,6 @@ enum-known-refusal c = search needs
 nothing-stored-requires-2 : tie.Need-nothing-stored-requires-2
 nothing-stored-requires-2 c κs = search needs
 
-enum-told : tie.Need-enum-told
-enum-told c = search needs
-
-store-candidate-requires : tie.Need-store-candidate-requires
-store-candidate-requires c κs = search needs
-
 returns-2 : tie.Need-returns-2
 returns-2 c =
     let f = c .before .before .before .before in
@@ -49,6 +43,12 @@ returns-2 c =
     let ok = sym (p .sound-cache .ensures) ∙ not-false (p .sound-cache .result) (f .before .if1 .left) in
     promised-refused (s .args .cache) (store-collated (s .args .candidate)) ok (candidate-questions (s .args .candidate)) (candidate-rest (s .args .candidate) (view (s .args .cache)))
     (candidate-split (s .args .candidate) (s .args .cache)) _ (f .candidate-refusal .ensures) _ _ (c .nothing-stored2 .ensures) (c .before .before .refusal .given .1)
+
+enum-told : tie.Need-enum-told
+enum-told c = search needs
+
+store-candidate-requires : tie.Need-store-candidate-requires
+store-candidate-requires c κs = search needs
 
 returns-3 : tie.Need-returns-3
 returns-3 c =
@@ -72,7 +72,7 @@ store-collated-spec =
     candidate-refusal-requires
     enum-known-refusal
     nothing-stored-requires-2
+    returns-2
     enum-told
     store-candidate-requires
-    returns-2
     returns-3)

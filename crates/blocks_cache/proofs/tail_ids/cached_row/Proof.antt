@@ -7,7 +7,7 @@ id-shard-requires : tie.Need-id-shard-requires
 id-shard-requires c κs = search needs
 
 returns : tie.Need-returns
-returns c = cc
+returns c = rw (c .id-shard .ensures)
 
 pub cached-row-spec : {M : Type 1} → statement M
 cached-row-spec = tie.close (tie.spec id-shard-requires returns)

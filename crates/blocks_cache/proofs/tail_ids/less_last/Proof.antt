@@ -7,7 +7,7 @@ less-id-requires : tie.Need-less-id-requires
 less-id-requires c κs = search needs
 
 returns : tie.Need-returns
-returns c = cc
+returns c = rw (c .before .before .less-id .ensures)
 
 pub less-last-spec : {M : Type 1} → statement M
 less-last-spec = tie.close (tie.spec less-id-requires returns)

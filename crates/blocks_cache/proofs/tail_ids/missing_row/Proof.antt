@@ -15,7 +15,7 @@ array-set-from-ids c = search needs
 
 returns : tie.Need-returns
 unfolding padded
-returns c = cc
+returns c = rw (c .zero-id .ensures, c .before .id-shard .ensures)
 
 pub missing-row-spec : {M : Type 1} → statement M
 missing-row-spec = tie.close (tie.spec id-shard-requires zero-id-requires array-set-from-ids returns)

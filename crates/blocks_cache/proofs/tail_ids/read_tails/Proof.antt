@@ -24,13 +24,13 @@ no-tails-requires-2 : tie.Need-no-tails-requires-2
 no-tails-requires-2 c κs = search needs
 
 returns-2 : tie.Need-returns-2
-returns-2 c = let s = c .before .before .before .before .before .before .before in read-vacant (s .args .seqno) (s .args .cache) (c .before .before .before .before .before .if1 .left) _ (c .before .before .before .master-at .ensures) _ (c .before .enum-told2 .given .1) _ (c .no-tails2 .ensures)
+returns-2 c = let s = c .before .before .before .before .before .before in read-vacant (s .args .seqno) (s .args .cache) (c .before .before .before .before .if1 .left) _ (c .before .before .before .master-at .ensures) _ (c .before .enum-told2 .given .1) _ (c .no-tails2 .ensures)
 
 block-tails-requires : tie.Need-block-tails-requires
 block-tails-requires c κs = search needs
 
 returns-3 : tie.Need-returns-3
-returns-3 c = let s = c .before .before .before .before .before .before .before .before in read-found (s .args .seqno) (s .args .cache) (c .before .before .before .before .before .before .if1 .left) _ (c .before .before .before .before .master-at .ensures) _ (c .before .before .enum-told .given .1) _ (c .block-tails .ensures)
+returns-3 c = let s = c .before .before .before .before .before .before in read-found (s .args .seqno) (s .args .cache) (c .before .before .before .before .if1 .left) _ (c .before .before .before .master-at .ensures) _ (c .before .enum-told .given .1) _ (c .block-tails .ensures)
 
 pub read-tails-spec : {M : Type 1} → statement M
 read-tails-spec =

@@ -16,13 +16,13 @@ enum-told-2 : tie.Need-enum-told-2
 enum-told-2 c = search needs
 
 returns : tie.Need-returns
-returns c = let s = c .before .before .before .before in validate-vacant _ _ (s .args .cache) _ (c .before .before .master-at .ensures) _ (c .enum-told2 .given .1)
+returns c = let s = c .before .before .before in validate-vacant _ _ (s .args .cache) _ (c .before .before .master-at .ensures) _ (c .enum-told2 .given .1)
 
 validated-kind-requires : tie.Need-validated-kind-requires
 validated-kind-requires c κs = search needs
 
 returns-2 : tie.Need-returns-2
-returns-2 c = let s = c .before .before .before .before .before .before .before .before .before in validate-kept _ _ (s .args .cache) _ (c .before .before .before .before .before .before .before .master-at .ensures) _ (c .before .before .before .before .before .enum-told .given .1) _ (c .before .before .validated-kind .ensures) (not-true _ (c .if1 .taken))
+returns-2 c = let s = c .before .before .before .before .before .before .before in validate-kept _ _ (s .args .cache) _ (c .before .before .before .before .before .before .master-at .ensures) _ (c .before .before .before .before .enum-told .given .1) _ (c .before .before .validated-kind .ensures) (not-true _ (c .if1 .taken))
 
 with-data-requires : tie.Need-with-data-requires
 with-data-requires c κs = search needs
@@ -37,7 +37,7 @@ result-status-requires : tie.Need-result-status-requires
 result-status-requires c κs = search needs
 
 returns-3 : tie.Need-returns-3
-returns-3 c = let s = c .before .before .before .before .before .before .before .before .before .before .before .before .before .before in validate-set _ _ (s .args .cache) _ (c .before .before .before .before .before .before .before .before .before .before .before .before .master-at .ensures) _ (c .before .before .before .before .before .before .before .before .before .before .enum-told .given .1) _ (c .before .before .before .before .before .before .before .validated-kind .ensures) (not-false _ (c .before .before .before .before .before .if1 .left)) _ _ _ _ (c .before .before .before .before .with-data .ensures) (c .before .before .put-master .ensures) (c .before .with-masters .ensures) (c .result-status .ensures)
+returns-3 c = let s = c .before .before .before .before .before .before .before .before .before .before .before .before in validate-set _ _ (s .args .cache) _ (c .before .before .before .before .before .before .before .before .before .before .before .master-at .ensures) _ (c .before .before .before .before .before .before .before .before .before .enum-told .given .1) _ (c .before .before .before .before .before .before .before .validated-kind .ensures) (not-false _ (c .before .before .before .before .before .if1 .left)) _ _ _ _ (c .before .before .before .before .with-data .ensures) (c .before .before .put-master .ensures) (c .before .with-masters .ensures) (c .result-status .ensures)
 
 pub validate-master-spec : {M : Type 1} → statement M
 validate-master-spec =

@@ -39,11 +39,11 @@ returns c =
     let s = c .before .before .before .before in
     entry-vacant (s .args .t1) (len s) (s .args .seqno) _ _ _ (c .before .before .before .find .ensures) (c .before .enum-told .given .1) (c .zero-entry .ensures)
 
-mul-entry : tie.Need-mul-entry
-mul-entry c = omega (arith, small c)
+mul-t8 : tie.Need-mul-t8
+mul-t8 c = omega (arith, small c)
 
-element-copy-out-entry : tie.Need-element-copy-out-entry
-element-copy-out-entry c = small c
+element-copy-out-t11 : tie.Need-element-copy-out-t11
+element-copy-out-t11 c = small c
 
 returns-2 : tie.Need-returns-2
 returns-2 c =
@@ -59,6 +59,6 @@ entry-at-spec =
     enum-told
     zero-entry-requires
     returns
-    mul-entry
-    element-copy-out-entry
+    mul-t8
+    element-copy-out-t11
     returns-2)

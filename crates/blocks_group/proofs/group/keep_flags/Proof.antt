@@ -28,11 +28,11 @@ listed-count-requires c κs = search needs
 loop-holds : tie.Need-loop-holds Inv-loop μ-loop
 loop-holds c = (search needs, rw (c .listed-count .ensures) (within-few 16 (c .before .args .t1 .count)), search needs, sym (padded-nil 16 false))
 
-mul-entry : tie.Need-mul-entry Inv-loop μ-loop
-mul-entry c = search needs
+mul-retains : tie.Need-mul-retains Inv-loop μ-loop
+mul-retains c = search needs
 
-element-copy-out-entry : tie.Need-element-copy-out-entry Inv-loop μ-loop
-element-copy-out-entry c = search needs
+element-copy-out-retains : tie.Need-element-copy-out-retains Inv-loop μ-loop
+element-copy-out-retains c = search needs
 
 retains-requires : tie.Need-retains-requires Inv-loop μ-loop
 retains-requires c κs = search needs
@@ -76,8 +76,8 @@ keep-flags-spec =
     μ-loop
     listed-count-requires
     loop-holds
-    mul-entry
-    element-copy-out-entry
+    mul-retains
+    element-copy-out-retains
     retains-requires
     array-write-keep
     add-i

@@ -1,9 +1,10 @@
 -- The entry at the place that the search finds, and the top items beside it.
 -- Assumes nothing.
-use mathlib.Core.Path.{_∙_, _≡_, sym}
-use native.Mathlib.Omega.{arith}
+use mathlib.Core.Path.{_∙_, _≡_, ap, sym}
 use Prim.Native.Nat.{_<_}
 use lib.ListN.{length}
+use Rattle.block_records.specs.declared.entry.MasterBlock.{MasterBlock}
+use Rattle.block_records.specs.Zeros.{zero-entry, zero-tops}
 use Rattle.block_records.proofs.LoopLaws.{length-mapped}
 use Rattle.blocks_group.specs.declared.search.Found.the-variants.{At as found-at}
 use Rattle.blocks_group.specs.Search.{place}
@@ -13,19 +14,19 @@ use borrow.Author.Needs.{needs}
 use Rattle.blocks_group.proofs.group.master_at.Statement.{statement}
 use Rattle.blocks_group.proofs.group.master_at.Tie as tie
 
-len : (c : tie.Start) → length (c .args .t1 .group .entries) ≡ 16
+len : (c : tie.Start) → length (c .args .masters .group .entries) ≡ 16
 len c = search (needs, length-mapped)
 
-len-tops : (c : tie.Start) → length (c .args .t1 .tops) ≡ 16
+len-tops : (c : tie.Start) → length (c .args .masters .tops) ≡ 16
 len-tops c = search (needs, length-mapped)
 
-at : (c : tie.After-known-told) → place (c .before .before .before .before .before .args .seqno) (listed-seqnos (c .before .before .before .before .before .args .t1 .group)) ≡ found-at (c .before .found .given .0 .0)
+at : (c : tie.After-known-told) → place (c .before .before .before .before .args .seqno) (listed-seqnos (c .before .before .before .before .args .masters .group)) ≡ found-at (c .before .found .given .0 .0)
 at c = sym (c .before .before .before .find .ensures) ∙ c .before .found .given .1
 
 small : (c : tie.After-known-told) → c .before .found .given .0 .0 < 16
 small c =
-    let s = c .before .before .before .before .before in
-    found-place (s .args .t1 .group) (len s) (s .args .seqno) (c .before .found .given .0 .0) (at c)
+    let s = c .before .before .before .before in
+    found-place (s .args .masters .group) (len s) (s .args .seqno) (c .before .found .given .0 .0) (at c)
 
 find-requires : tie.Need-find-requires
 find-requires c κs = search needs
@@ -40,24 +41,17 @@ zero-master-requires : tie.Need-zero-master-requires
 zero-master-requires c κs = search needs
 
 returns : tie.Need-returns
-returns c = let s = c .before .before .before .before .before in master-vacant (s .args .t1) (len s) (len-tops s) (s .args .seqno) _ _ _ (c .before .before .before .find .ensures) (c .before .enum-told .given .1) (c .zero-master .ensures)
+returns c = let s = c .before .before .before .before in master-vacant (s .args .masters) (len s) (len-tops s) (s .args .seqno) _ _ _ (c .before .before .before .find .ensures) (c .before .enum-told .given .1) (c .zero-master .ensures)
 
-mul-entry : tie.Need-mul-entry
-mul-entry c = omega (arith, small c)
-
-element-copy-out-entry : tie.Need-element-copy-out-entry
-element-copy-out-entry c = small c
-
-mul-tops : tie.Need-mul-tops
-mul-tops c = omega (arith, small (c .before))
-
-element-copy-out-tops : tie.Need-element-copy-out-tops
-element-copy-out-tops c = small (c .before)
+master-in-place-requires : tie.Need-master-in-place-requires
+master-in-place-requires c κs = small c
 
 returns-2 : tie.Need-returns-2
 returns-2 c =
-    let s = c .before .before .before .before .before .before .before in
-    master-found (s .args .t1) (len s) (len-tops s) (s .args .seqno) (c .before .before .before .found .given .0 .0) (at (c .before .before)) _ _
+    let s = c .before .before .before .before .before in
+    let k = c .before .before .found .given .0 .0 in
+    ap (λ (b : MasterBlock). record { found = found-at k; block = b }) (c .master-in-place .ensures)
+    ∙ master-found (s .args .masters) (len s) (len-tops s) (s .args .seqno) k (at (c .before)) zero-entry zero-tops
 
 pub master-at-spec : {M : Type 1} → statement M
 master-at-spec =
@@ -68,8 +62,5 @@ master-at-spec =
     enum-told
     zero-master-requires
     returns
-    mul-entry
-    element-copy-out-entry
-    mul-tops
-    element-copy-out-tops
+    master-in-place-requires
     returns-2)

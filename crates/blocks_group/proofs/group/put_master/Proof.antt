@@ -20,10 +20,10 @@ len-tops : (c : tie.Start) → length (c .args .masters .tops) ≡ 16
 len-tops c = search (needs, length-mapped)
 
 -- what the search answered
-found : (c : tie.After-known-told) → place (record-seqno (c .before .before .before .before .before .args .block .entry)) (listed-seqnos (c .before .before .before .before .before .args .masters .group)) ≡ found-at (c .before .found .given .0 .0)
+found : (c : tie.After-known-told) → place (record-seqno (c .before .before .before .before .args .block .entry)) (listed-seqnos (c .before .before .before .before .args .masters .group)) ≡ found-at (c .before .found .given .0 .0)
 found c = sym (c .before .before .before .find .ensures) ∙ c .before .found .given .1
 
-vacant : (c : tie.After-known-told2) → place (record-seqno (c .before .before .before .before .before .args .block .entry)) (listed-seqnos (c .before .before .before .before .before .args .masters .group)) ≡ vacant-at (c .before .found2 .given .0 .0)
+vacant : (c : tie.After-known-told2) → place (record-seqno (c .before .before .before .before .args .block .entry)) (listed-seqnos (c .before .before .before .before .args .masters .group)) ≡ vacant-at (c .before .found2 .given .0 .0)
 vacant c = sym (c .before .before .before .find .ensures) ∙ c .before .found2 .given .1
 
 find-requires : tie.Need-find-requires
@@ -33,11 +33,11 @@ enum-known-found : tie.Need-enum-known-found
 enum-known-found c = search needs
 
 add-put-master-at : tie.Need-add-put-master-at
-add-put-master-at c = let s = c .before .before .before .before .before in omega (arith, found-place (s .args .masters .group) (len s) _ _ (found c))
+add-put-master-at c = let s = c .before .before .before .before in omega (arith, found-place (s .args .masters .group) (len s) _ _ (found c))
 
 put-master-at-requires : tie.Need-put-master-at-requires
 put-master-at-requires c κs =
-    let s = c .before .before .before .before .before in
+    let s = c .before .before .before .before in
     found-splices 16 record-seqno (s .args .block .entry) (listed-entries (s .args .masters .group)) _ (found c) (listed-few (s .args .masters .group) (len s))
 
 enum-known-found-2 : tie.Need-enum-known-found-2
@@ -45,22 +45,22 @@ enum-known-found-2 c = search needs
 
 put-master-at-requires-2 : tie.Need-put-master-at-requires-2
 put-master-at-requires-2 c κs =
-    let s = c .before .before .before .before .before .before .before in
+    let s = c .before .before .before .before .before .before in
     vacant-splices 16 record-seqno (s .args .block .entry) (listed-entries (s .args .masters .group)) _ (vacant (c .before .before)) (listed-below (s .args .masters .group) (len s) (c .if1 .taken))
 
 returns : tie.Need-returns
 returns c =
-    let s = c .before .before .before .before .before .before .before .before in
+    let s = c .before .before .before .before .before .before .before in
     c .put-master-at2 .ensures ∙ put-master-vacant (s .args .masters) (len s) (len-tops s) (s .args .block) _ (vacant (c .before .before .before)) (c .before .if1 .taken)
 
 returns-2 : tie.Need-returns-2
 returns-2 c =
-    let s = c .before .before .before .before .before .before in
+    let s = c .before .before .before .before .before in
     c .put-master-at .ensures ∙ put-master-found (s .args .masters) (len s) (len-tops s) (s .args .block) _ (found (c .before))
 
 returns-3 : tie.Need-returns-3
 returns-3 c =
-    let s = c .before .before .before .before .before .before .before in
+    let s = c .before .before .before .before .before .before in
     put-master-full (s .args .masters) (len s) (len-tops s) (s .args .block) _ (vacant (c .before .before)) (c .if1 .left)
 
 pub put-master-spec : {M : Type 1} → statement M

@@ -21,13 +21,13 @@ put-entry-at-requires c κs = search needs
 
 put-tops-at-requires : tie.Need-put-tops-at-requires
 put-tops-at-requires c κs =
-    let s = c .before .before .before .before .before in
+    let s = c .before .before in
     subst (λ (n : ℕ). Splices 16 (s .args .at) (s .args .from) n) (sym (tops-length (s .args .masters) (len s) (len-tops s))) (s .pre)
 
 returns : tie.Need-returns
 returns c =
-    let s = c .before .before .before .before .before .before in
-    splice-masters (s .args .masters) (len s) (len-tops s) (s .args .at) (s .args .from) (s .args .block) _ _ (c .before .before .before .put-entry-at .ensures) (c .put-tops-at .ensures)
+    let s = c .before .before .before in
+    splice-masters (s .args .masters) (len s) (len-tops s) (s .args .at) (s .args .from) (s .args .block) _ _ (c .before .before .put-entry-at .ensures) (c .put-tops-at .ensures)
 
 pub put-master-at-spec : {M : Type 1} → statement M
 put-master-at-spec = tie.close (tie.spec put-entry-at-requires put-tops-at-requires returns)

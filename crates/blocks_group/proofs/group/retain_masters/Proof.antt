@@ -29,7 +29,7 @@ compact-tops-requires c κs = search needs
 
 returns : tie.Need-returns
 returns c =
-    let s = c .before .before .before .before .before in
+    let s = c .before .before .before .before in
     let m = s .args .masters in
     let k = c .before .before .before .keep-flags .ensures in
     retain-masters-by-flags m (len s) (len-tops s) (s .args .rule) _ _

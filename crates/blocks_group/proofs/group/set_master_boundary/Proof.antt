@@ -8,7 +8,7 @@ set-group-boundary-requires : tie.Need-set-group-boundary-requires
 set-group-boundary-requires c κs = search needs
 
 returns : tie.Need-returns
-returns c = cc
+returns c = let s = c .before .before in λ i. record { group = c .before .set-group-boundary .ensures i; tops = s .args .masters .tops }
 
 pub set-master-boundary-spec : {M : Type 1} → statement M
 set-master-boundary-spec = tie.close (tie.spec set-group-boundary-requires returns)

@@ -11,7 +11,7 @@ refreshed-mark-requires : tie.Need-refreshed-mark-requires
 refreshed-mark-requires c κs = search needs
 
 returns : tie.Need-returns
-returns c = cc
+returns c = λ i. record { given = c .before .given-mark .ensures i; mark = c .refreshed-mark .ensures i }
 
 pub check-mark-spec : {M : Type 1} → statement M
 check-mark-spec = tie.close (tie.spec given-mark-requires refreshed-mark-requires returns)

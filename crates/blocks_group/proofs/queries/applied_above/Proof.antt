@@ -31,11 +31,11 @@ returns c =
     let s = h .before in
     sym (h .loop .inv .1 ∙ any-passed (record-applied-above (s .args .seqno)) (s .args .t1 .entries) _ _ (c .if1 .taken))
 
-mul-entry : tie.Need-mul-entry Inv-loop μ-loop
-mul-entry c = search needs
+mul-is-applied-above : tie.Need-mul-is-applied-above Inv-loop μ-loop
+mul-is-applied-above c = search needs
 
-element-copy-out-entry : tie.Need-element-copy-out-entry Inv-loop μ-loop
-element-copy-out-entry c = search needs
+element-copy-out-is-applied-above : tie.Need-element-copy-out-is-applied-above Inv-loop μ-loop
+element-copy-out-is-applied-above c = search needs
 
 is-applied-above-requires : tie.Need-is-applied-above-requires Inv-loop μ-loop
 is-applied-above-requires c κs = search needs
@@ -75,4 +75,4 @@ returns-3 c =
     sym (h .loop .inv .1 ∙ any-over (record-applied-above (s .args .seqno)) (s .args .t1 .entries) _ (h .loop .i) (omega arith))
 
 pub applied-above-spec : {M : Type 1} → statement M
-applied-above-spec = tie.close (tie.spec Inv-loop μ-loop loop-holds returns mul-entry element-copy-out-entry is-applied-above-requires returns-2 add-i loop-less loop-again returns-3)
+applied-above-spec = tie.close (tie.spec Inv-loop μ-loop loop-holds returns mul-is-applied-above element-copy-out-is-applied-above is-applied-above-requires returns-2 add-i loop-less loop-again returns-3)

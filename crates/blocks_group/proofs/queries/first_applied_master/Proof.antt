@@ -1,9 +1,10 @@
 -- The entry at the place found, and the top items beside it.
 -- Assumes nothing.
-use mathlib.Core.Path.{_∙_, _≡_, sym}
-use native.Mathlib.Omega.{arith}
+use mathlib.Core.Path.{_∙_, _≡_, ap, sym}
 use Prim.Native.Nat.{_<_}
 use lib.ListN.{length}
+use Rattle.block_records.specs.declared.entry.MasterBlock.{MasterBlock}
+use Rattle.block_records.specs.Zeros.{zero-entry, zero-tops}
 use Rattle.block_records.proofs.LoopLaws.{length-mapped}
 use Rattle.blocks_group.specs.declared.search.Found.the-variants.{At as found-at}
 use Rattle.blocks_group.specs.GroupQueries.{first-applied-place}
@@ -12,17 +13,17 @@ use borrow.Author.Needs.{needs}
 use Rattle.blocks_group.proofs.queries.first_applied_master.Statement.{statement}
 use Rattle.blocks_group.proofs.queries.first_applied_master.Tie as tie
 
-len : (c : tie.Start) → length (c .args .t1 .group .entries) ≡ 16
+len : (c : tie.Start) → length (c .args .masters .group .entries) ≡ 16
 len c = search (needs, length-mapped)
 
-len-tops : (c : tie.Start) → length (c .args .t1 .tops) ≡ 16
+len-tops : (c : tie.Start) → length (c .args .masters .tops) ≡ 16
 len-tops c = search (needs, length-mapped)
 
-at : (c : tie.After-known-told) → first-applied-place (c .before .before .before .before .before .args .from) (c .before .before .before .before .before .args .t1 .group) ≡ found-at (c .before .found .given .0 .0)
+at : (c : tie.After-known-told) → first-applied-place (c .before .before .before .before .args .from) (c .before .before .before .before .args .masters .group) ≡ found-at (c .before .found .given .0 .0)
 at c = sym (c .before .before .before .first-applied-place .ensures) ∙ c .before .found .given .1
 
 small : (c : tie.After-known-told) → c .before .found .given .0 .0 < 16
-small c = let s = c .before .before .before .before .before in applied-place (s .args .from) (s .args .t1) (len s) (len-tops s) (c .before .found .given .0 .0) (at c)
+small c = let s = c .before .before .before .before in applied-place (s .args .from) (s .args .masters) (len s) (len-tops s) (c .before .found .given .0 .0) (at c)
 
 first-applied-place-requires : tie.Need-first-applied-place-requires
 first-applied-place-requires c κs = search needs
@@ -37,22 +38,17 @@ zero-master-requires : tie.Need-zero-master-requires
 zero-master-requires c κs = search needs
 
 returns : tie.Need-returns
-returns c = let s = c .before .before .before .before .before in applied-vacant (s .args .from) (s .args .t1) (len s) (len-tops s) _ _ _ (c .before .before .before .first-applied-place .ensures) (c .before .enum-told .given .1) (c .zero-master .ensures)
+returns c = let s = c .before .before .before .before in applied-vacant (s .args .from) (s .args .masters) (len s) (len-tops s) _ _ _ (c .before .before .before .first-applied-place .ensures) (c .before .enum-told .given .1) (c .zero-master .ensures)
 
-mul-entry : tie.Need-mul-entry
-mul-entry c = omega (arith, small c)
-
-element-copy-out-entry : tie.Need-element-copy-out-entry
-element-copy-out-entry c = small c
-
-mul-tops : tie.Need-mul-tops
-mul-tops c = omega (arith, small (c .before))
-
-element-copy-out-tops : tie.Need-element-copy-out-tops
-element-copy-out-tops c = small (c .before)
+master-in-place-requires : tie.Need-master-in-place-requires
+master-in-place-requires c κs = small c
 
 returns-2 : tie.Need-returns-2
-returns-2 c = let s = c .before .before .before .before .before .before .before in applied-found (s .args .from) (s .args .t1) (len s) (len-tops s) (c .before .before .before .found .given .0 .0) (at (c .before .before)) _ _
+returns-2 c =
+    let s = c .before .before .before .before .before in
+    let k = c .before .before .found .given .0 .0 in
+    ap (λ (b : MasterBlock). record { found = found-at k; block = b }) (c .master-in-place .ensures)
+    ∙ applied-found (s .args .from) (s .args .masters) (len s) (len-tops s) k (at (c .before)) zero-entry zero-tops
 
 pub first-applied-master-spec : {M : Type 1} → statement M
 first-applied-master-spec =
@@ -63,8 +59,5 @@ first-applied-master-spec =
     enum-told
     zero-master-requires
     returns
-    mul-entry
-    element-copy-out-entry
-    mul-tops
-    element-copy-out-tops
+    master-in-place-requires
     returns-2)

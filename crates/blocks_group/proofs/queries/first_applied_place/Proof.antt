@@ -30,11 +30,11 @@ returns c =
     let s = h .before in
     sym (h .loop .inv .1 ∙ first-passed (record-applied-from (s .args .from)) (s .args .t1 .entries) _ _ (c .if1 .taken))
 
-mul-entry : tie.Need-mul-entry Inv-loop μ-loop
-mul-entry c = search needs
+mul-is-applied-from : tie.Need-mul-is-applied-from Inv-loop μ-loop
+mul-is-applied-from c = search needs
 
-element-copy-out-entry : tie.Need-element-copy-out-entry Inv-loop μ-loop
-element-copy-out-entry c = search needs
+element-copy-out-is-applied-from : tie.Need-element-copy-out-is-applied-from Inv-loop μ-loop
+element-copy-out-is-applied-from c = search needs
 
 is-applied-from-requires : tie.Need-is-applied-from-requires Inv-loop μ-loop
 is-applied-from-requires c κs = search needs
@@ -74,4 +74,4 @@ returns-3 c =
     sym (h .loop .inv .1 ∙ first-over (record-applied-from (s .args .from)) (s .args .t1 .entries) _ (h .loop .i) (omega arith))
 
 pub first-applied-place-spec : {M : Type 1} → statement M
-first-applied-place-spec = tie.close (tie.spec Inv-loop μ-loop loop-holds returns mul-entry element-copy-out-entry is-applied-from-requires returns-2 add-i loop-less loop-again returns-3)
+first-applied-place-spec = tie.close (tie.spec Inv-loop μ-loop loop-holds returns mul-is-applied-from element-copy-out-is-applied-from is-applied-from-requires returns-2 add-i loop-less loop-again returns-3)

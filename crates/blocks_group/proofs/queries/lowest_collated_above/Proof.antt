@@ -32,11 +32,11 @@ returns c =
     let s = h .before in
     sym (h .loop .inv .1 ∙ best-passed lower-of record-seqno (record-collated-above (s .args .seqno)) (s .args .t1 .entries) _ _ _ (c .if1 .taken))
 
-mul-entry : tie.Need-mul-entry Inv-loop μ-loop
-mul-entry c = search needs
+mul-lower-collated : tie.Need-mul-lower-collated Inv-loop μ-loop
+mul-lower-collated c = search needs
 
-element-copy-out-entry : tie.Need-element-copy-out-entry Inv-loop μ-loop
-element-copy-out-entry c = search needs
+element-copy-out-lower-collated : tie.Need-element-copy-out-lower-collated Inv-loop μ-loop
+element-copy-out-lower-collated c = search needs
 
 lower-collated-requires : tie.Need-lower-collated-requires Inv-loop μ-loop
 lower-collated-requires c κs = search needs
@@ -65,4 +65,4 @@ returns-2 c =
     sym (h .loop .inv .1 ∙ best-over lower-of record-seqno (record-collated-above (s .args .seqno)) (s .args .t1 .entries) _ (h .loop .i) _ (omega arith))
 
 pub lowest-collated-above-spec : {M : Type 1} → statement M
-lowest-collated-above-spec = tie.close (tie.spec Inv-loop μ-loop loop-holds returns mul-entry element-copy-out-entry lower-collated-requires add-i loop-less loop-again returns-2)
+lowest-collated-above-spec = tie.close (tie.spec Inv-loop μ-loop loop-holds returns mul-lower-collated element-copy-out-lower-collated lower-collated-requires add-i loop-less loop-again returns-2)

@@ -8,7 +8,7 @@ refresh-group-requires : tie.Need-refresh-group-requires
 refresh-group-requires c κs = search needs
 
 returns : tie.Need-returns
-returns c = cc
+returns c = let s = c .before .before in λ i. record { group = c .before .refresh-group .ensures i; tops = s .args .masters .tops }
 
 pub refresh-masters-spec : {M : Type 1} → statement M
 refresh-masters-spec = tie.close (tie.spec refresh-group-requires returns)

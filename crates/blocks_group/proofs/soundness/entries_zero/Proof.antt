@@ -24,11 +24,11 @@ len c = search (needs, length-mapped)
 loop-holds : tie.Need-loop-holds Inv-loop μ-loop
 loop-holds c = search needs
 
-mul-entry : tie.Need-mul-entry Inv-loop μ-loop
-mul-entry c = search needs
+mul-is-zero-entry : tie.Need-mul-is-zero-entry Inv-loop μ-loop
+mul-is-zero-entry c = search needs
 
-element-copy-out-entry : tie.Need-element-copy-out-entry Inv-loop μ-loop
-element-copy-out-entry c = search needs
+element-copy-out-is-zero-entry : tie.Need-element-copy-out-is-zero-entry Inv-loop μ-loop
+element-copy-out-is-zero-entry c = search needs
 
 is-zero-entry-requires : tie.Need-is-zero-entry-requires Inv-loop μ-loop
 is-zero-entry-requires c κs = search needs
@@ -68,4 +68,4 @@ returns-2 c =
     sym (h .loop .inv ∙ rest-end is-zero-entry zero-entry (s .args .t1 .entries) (h .loop .i) (omega arith))
 
 pub entries-zero-spec : {M : Type 1} → statement M
-entries-zero-spec = tie.close (tie.spec Inv-loop μ-loop loop-holds mul-entry element-copy-out-entry is-zero-entry-requires returns add-i loop-less loop-again returns-2)
+entries-zero-spec = tie.close (tie.spec Inv-loop μ-loop loop-holds mul-is-zero-entry element-copy-out-is-zero-entry is-zero-entry-requires returns add-i loop-less loop-again returns-2)

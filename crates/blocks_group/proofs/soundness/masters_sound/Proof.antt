@@ -37,17 +37,17 @@ returns c =
     let s = h .before in
     sym (h .loop .inv .1 ∙ masters-passed master-sound (s .args .t1 .entries) (s .args .t2) (len s) (len-tops s) _ _ (c .if1 .taken))
 
-mul-entry : tie.Need-mul-entry Inv-loop μ-loop
-mul-entry c = search needs
+mul-master-sound : tie.Need-mul-master-sound Inv-loop μ-loop
+mul-master-sound c = search needs
 
-element-copy-out-entry : tie.Need-element-copy-out-entry Inv-loop μ-loop
-element-copy-out-entry c = search needs
+element-copy-out-master-sound : tie.Need-element-copy-out-master-sound Inv-loop μ-loop
+element-copy-out-master-sound c = search needs
 
-mul-items : tie.Need-mul-items Inv-loop μ-loop
-mul-items c = search needs
+mul-master-sound-2 : tie.Need-mul-master-sound-2 Inv-loop μ-loop
+mul-master-sound-2 c = search needs
 
-array-copy-out-items : tie.Need-array-copy-out-items Inv-loop μ-loop
-array-copy-out-items c = search needs
+array-copy-out-master-sound : tie.Need-array-copy-out-master-sound Inv-loop μ-loop
+array-copy-out-master-sound c = search needs
 
 master-sound-requires : tie.Need-master-sound-requires Inv-loop μ-loop
 master-sound-requires c κs = search needs
@@ -81,4 +81,4 @@ returns-3 c =
     sym (h .loop .inv .1 ∙ masters-over master-sound (s .args .t1 .entries) (s .args .t2) (len s) (len-tops s) _ (h .loop .i) (c .loop-test .left))
 
 pub masters-sound-spec : {M : Type 1} → statement M
-masters-sound-spec = tie.close (tie.spec Inv-loop μ-loop loop-holds returns mul-entry element-copy-out-entry mul-items array-copy-out-items master-sound-requires returns-2 add-i loop-less loop-again returns-3)
+masters-sound-spec = tie.close (tie.spec Inv-loop μ-loop loop-holds returns mul-master-sound element-copy-out-master-sound mul-master-sound-2 array-copy-out-master-sound master-sound-requires returns-2 add-i loop-less loop-again returns-3)

@@ -24,11 +24,11 @@ len c = search (needs, length-mapped)
 loop-holds : tie.Need-loop-holds Inv-loop μ-loop
 loop-holds c = search needs
 
-mul-items : tie.Need-mul-items Inv-loop μ-loop
-mul-items c = search needs
+mul-is-zero-tops : tie.Need-mul-is-zero-tops Inv-loop μ-loop
+mul-is-zero-tops c = search needs
 
-array-copy-out-items : tie.Need-array-copy-out-items Inv-loop μ-loop
-array-copy-out-items c = search needs
+array-copy-out-is-zero-tops : tie.Need-array-copy-out-is-zero-tops Inv-loop μ-loop
+array-copy-out-is-zero-tops c = search needs
 
 is-zero-tops-requires : tie.Need-is-zero-tops-requires Inv-loop μ-loop
 is-zero-tops-requires c κs = search needs
@@ -68,4 +68,4 @@ returns-2 c =
     sym (h .loop .inv ∙ rest-end is-zero-tops zero-tops (s .args .t1) (h .loop .i) (omega arith))
 
 pub tops-zero-spec : {M : Type 1} → statement M
-tops-zero-spec = tie.close (tie.spec Inv-loop μ-loop loop-holds mul-items array-copy-out-items is-zero-tops-requires returns add-i loop-less loop-again returns-2)
+tops-zero-spec = tie.close (tie.spec Inv-loop μ-loop loop-holds mul-is-zero-tops array-copy-out-is-zero-tops is-zero-tops-requires returns add-i loop-less loop-again returns-2)

@@ -21,10 +21,10 @@ put-master-requires : tie.Need-put-master-requires
 put-master-requires c κs = search needs
 
 returns : tie.Need-returns
-returns c = collated-master-put (c .before .before .before .before .before .before .args .c) (c .before .before .before .before .before .before .args .masters) (len (c .before .before .before .before .before .before)) (c .before .before .before .before .before .master-at .result) (c .before .before .before .before .before .master-at .ensures) (c .before .before .collated-step .result) (c .before .before .collated-step .ensures) (c .before .if1 .taken) _ (c .put-master .ensures)
+returns c = collated-master-put (c .before .before .before .before .before .args .c) (c .before .before .before .before .before .args .masters) (len (c .before .before .before .before .before)) (c .before .before .before .before .master-at .result) (c .before .before .before .before .master-at .ensures) (c .before .before .collated-step .result) (c .before .before .collated-step .ensures) (c .before .if1 .taken) _ (c .put-master .ensures)
 
 returns-2 : tie.Need-returns-2
-returns-2 c = collated-master-kept (c .before .before .before .before .before .args .c) (c .before .before .before .before .before .args .masters) (len (c .before .before .before .before .before)) (c .before .before .before .before .master-at .result) (c .before .before .before .before .master-at .ensures) (c .before .collated-step .result) (c .before .collated-step .ensures) (c .if1 .left)
+returns-2 c = collated-master-kept (c .before .before .before .before .args .c) (c .before .before .before .before .args .masters) (len (c .before .before .before .before)) (c .before .before .before .master-at .result) (c .before .before .before .master-at .ensures) (c .before .collated-step .result) (c .before .collated-step .ensures) (c .if1 .left)
 
 pub store-collated-master-spec : {M : Type 1} → statement M
 store-collated-master-spec =

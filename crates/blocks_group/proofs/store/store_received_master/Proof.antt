@@ -11,11 +11,11 @@ use Rattle.blocks_group.proofs.store.store_received_master.Tie as tie
 len : (c : tie.Start) → length (c .args .masters .group .entries) ≡ 16
 len c = search (needs, length-mapped)
 
-known-synced-requires : tie.Need-known-synced-requires
-known-synced-requires c κs = search needs
+synced-in-requires : tie.Need-synced-in-requires
+synced-in-requires c κs = search needs
 
 returns : tie.Need-returns
-returns c = received-master-synced (c .before .before .before .args .zerostate) (c .before .before .before .args .r) (c .before .before .before .args .masters) (sym (c .before .known-synced .ensures) ∙ c .if1 .taken)
+returns c = let s = c .before .before in received-master-synced (s .args .zerostate) (s .args .r) (s .args .masters) (sym (c .before .synced-in .ensures) ∙ c .if1 .taken)
 
 master-at-requires : tie.Need-master-at-requires
 master-at-requires c κs = search needs
@@ -30,16 +30,24 @@ refresh-masters-requires : tie.Need-refresh-masters-requires
 refresh-masters-requires c κs = search needs
 
 returns-2 : tie.Need-returns-2
-returns-2 c = received-master-put (c .before .before .before .before .before .before .before .before .before .before .args .zerostate) (c .before .before .before .before .before .before .before .before .before .before .args .r) (c .before .before .before .before .before .before .before .before .before .before .args .masters) (sym (c .before .before .before .before .before .before .before .before .known-synced .ensures) ∙ c .before .before .before .before .before .before .before .if1 .left) (len (c .before .before .before .before .before .before .before .before .before .before)) (c .before .before .before .before .before .before .master-at .result) (c .before .before .before .before .before .before .master-at .ensures) (c .before .before .before .received-step .result) (c .before .before .before .received-step .ensures) (c .before .before .if2 .taken) _ _ (c .before .put-master .ensures) (c .refresh-masters .ensures)
+returns-2 c =
+    let m = c .before .before .before in
+    let a = m .before .before in
+    let s = a .before .before .before in
+    received-master-put (s .args .zerostate) (s .args .r) (s .args .masters) (sym (a .before .before .synced-in .ensures) ∙ a .before .if1 .left) (len s) (a .master-at .result) (a .master-at .ensures) (m .received-step .result) (m .received-step .ensures) (c .before .before .if2 .taken) _ _ (c .before .put-master .ensures) (c .refresh-masters .ensures)
 
 returns-3 : tie.Need-returns-3
-returns-3 c = received-master-kept (c .before .before .before .before .before .before .before .before .args .zerostate) (c .before .before .before .before .before .before .before .before .args .r) (c .before .before .before .before .before .before .before .before .args .masters) (sym (c .before .before .before .before .before .before .known-synced .ensures) ∙ c .before .before .before .before .before .if1 .left) (len (c .before .before .before .before .before .before .before .before)) (c .before .before .before .before .master-at .result) (c .before .before .before .before .master-at .ensures) (c .before .received-step .result) (c .before .received-step .ensures) (c .if2 .left)
+returns-3 c =
+    let m = c .before in
+    let a = m .before .before in
+    let s = a .before .before .before in
+    received-master-kept (s .args .zerostate) (s .args .r) (s .args .masters) (sym (a .before .before .synced-in .ensures) ∙ a .before .if1 .left) (len s) (a .master-at .result) (a .master-at .ensures) (m .received-step .result) (m .received-step .ensures) (c .if2 .left)
 
 pub store-received-master-spec : {M : Type 1} → statement M
 store-received-master-spec =
     tie.close
     (tie.spec
-    known-synced-requires
+    synced-in-requires
     returns
     master-at-requires
     received-step-requires

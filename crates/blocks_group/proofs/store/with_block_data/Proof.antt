@@ -8,7 +8,7 @@ with-data-requires : tie.Need-with-data-requires
 with-data-requires c κs = search needs
 
 returns : tie.Need-returns
-returns c = cc
+returns c = let s = c .before .before in λ i. record { entry = c .before .with-data .ensures i; tops = s .args .block .tops }
 
 pub with-block-data-spec : {M : Type 1} → statement M
 with-block-data-spec = tie.close (tie.spec with-data-requires returns)
