@@ -134,28 +134,11 @@ impl Driver {
                 clock.time(|| c.store_collated(b, tops, r.anchor)).map_or_else(|e| refused(&e), |r| stored(&r))
             }
             Request::StoreReceived(r) => self.store_received(r),
-            Request::Validation(i, v) => {
-                let (id, verdict) = (id(i), verdict(*v));
-                match clock.time(|| c.store_master_block_validation_result(&id, verdict)) {
-                    None => Answer::NoChange,
-                    Some(s) => Answer::Changed(status_back(s)),
-                }
-            }
+            Request::Validation(i, v) => self.validate(&id(i), verdict(*v)),
             Request::Pop(from) => self.pop(*from),
-            Request::Sync(i) => {
-                let id = id(i);
-                let extract = clock.time(|| c.extract_mc_block_subgraph_for_sync(&id));
-                self.extracted(extract).map_or(Answer::AlreadyExtracted, Answer::Extracted)
-            }
-            Request::Peek(from) => match clock.time(|| c.peek_front_applied_mc_block_subgraph(*from)) {
-                Err(e) => refused(&e),
-                Ok(None) => Answer::Nothing,
-                Ok(Some(v)) => Answer::Found(view(&v)),
-            },
-            Request::TailIds(k) => {
-                let key = key(k);
-                clock.time(|| c.read_before_tail_ids_of_mc_block(&key)).map_or_else(|e| refused(&e), rows)
-            }
+            Request::Sync(i) => self.sync(&id(i)),
+            Request::Peek(from) => self.peek(*from),
+            Request::TailIds(k) => self.tail_ids(&key(k)),
             Request::Boundary(keys) => {
                 let keys: Vec<_> = keys.iter().map(key).collect();
                 clock.time(|| c.set_gc_to_boundary(&keys));
@@ -172,6 +155,30 @@ impl Driver {
             }
             Request::Sound => return Err("the original has no question 1"),
         })
+    }
+
+    fn validate(&self, id: &BlockId, verdict: ValidationStatus) -> Answer {
+        match self.clock.time(|| self.cache.store_master_block_validation_result(id, verdict)) {
+            None => Answer::NoChange,
+            Some(s) => Answer::Changed(status_back(s)),
+        }
+    }
+
+    fn peek(&self, from: u32) -> Answer {
+        match self.clock.time(|| self.cache.peek_front_applied_mc_block_subgraph(from)) {
+            Err(e) => refused(&e),
+            Ok(None) => Answer::Nothing,
+            Ok(Some(v)) => Answer::Found(view(&v)),
+        }
+    }
+
+    fn tail_ids(&self, key: &BlockCacheKey) -> Answer {
+        self.clock.time(|| self.cache.read_before_tail_ids_of_mc_block(key)).map_or_else(|e| refused(&e), rows)
+    }
+
+    fn sync(&self, id: &BlockId) -> Answer {
+        let extract = self.clock.time(|| self.cache.extract_mc_block_subgraph_for_sync(id));
+        self.extracted(extract).map_or(Answer::AlreadyExtracted, Answer::Extracted)
     }
 
     fn pop(&self, from: u32) -> Answer {

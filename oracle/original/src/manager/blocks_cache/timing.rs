@@ -23,14 +23,15 @@ impl Clock {
     }
 }
 
-/// What timing nothing takes, on average.
+/// What timing nothing takes: the least average of a hundred rounds, so that a round in which the machine did something else doesn't count.
 fn own_cost() -> Duration {
-    const TIMES: u32 = 100_000;
-    let clock = Clock::default();
-    for _ in 0..TIMES {
-        clock.time(|| std::hint::black_box(()));
-    }
-    clock.spent() / TIMES
+    const TIMES: u32 = 1000;
+    let round = |_| {
+        let clock = Clock::default();
+        (0..TIMES).for_each(|_| clock.time(|| std::hint::black_box(())));
+        clock.spent() / TIMES
+    };
+    (0..100).map(round).min().unwrap_or_default()
 }
 
 /// The time of so many calls in microseconds, less the clock's own.
