@@ -147,18 +147,27 @@ impl Places {
         Cache { zerostate: self.zerostate, masters: self.masters.view(&self.tops), ids, range: self.range, shards }
     }
 
-    /// The lines of `dump raw`; a record that is all zeros is left out.
+    /// The lines of `dump raw`; but for the head, a record that is all zeros is left out.
     pub fn write(&self, o: &mut Out) {
         put!(o, "raw zero\n");
-        self.write_changes(o, &Places::default());
+        self.write_head(o);
+        self.write_records(o, &Places::default());
+    }
+
+    fn write_head(&self, o: &mut Out) {
+        put!(o, "raw head zerostate=", num self.zerostate, " range=", range self.range);
+        put!(o, " ids=", num self.ids_count, " shards=", num self.shards_count, "\n");
     }
 
     /// The `raw` lines that make these places of others.
     pub fn write_changes(&self, o: &mut Out, from: &Places) {
         if (self.zerostate, self.range, self.ids_count, self.shards_count) != (from.zerostate, from.range, from.ids_count, from.shards_count) {
-            put!(o, "raw head zerostate=", num self.zerostate, " range=", range self.range);
-            put!(o, " ids=", num self.ids_count, " shards=", num self.shards_count, "\n");
+            self.write_head(o);
         }
+        self.write_records(o, from);
+    }
+
+    fn write_records(&self, o: &mut Out, from: &Places) {
         for (i, (id, old)) in self.ids.iter().zip(&from.ids).enumerate() {
             if id != old {
                 put!(o, "raw id ", num i as u64, " ", id id, "\n");
