@@ -119,9 +119,11 @@ pub fn entry_at(group: Group, seqno: u32) -> EntryAt
 
 // The master block of a place.
 pub(crate) fn master_in_place(masters: MasterGroup, at: usize) -> MasterBlock
-    requires { ⌜ at < 16 ⌝ }
     ensures { λ r. ⌜ r ≡ record { entry = getD (masters .group .entries) at zero-entry; tops = getD (masters .tops) at zero-tops } ⌝ }
 {
+    if 16 <= at {
+        return zero_master();
+    }
     let group = masters.group;
     MasterBlock {
         entry: group.entries[at],

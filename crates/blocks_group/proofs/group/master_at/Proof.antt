@@ -44,7 +44,7 @@ returns : tie.Need-returns
 returns c = let s = c .before .before .before .before in master-vacant (s .args .masters) (len s) (len-tops s) (s .args .seqno) _ _ _ (c .before .before .before .find .ensures) (c .before .enum-told .given .1) (c .zero-master .ensures)
 
 master-in-place-requires : tie.Need-master-in-place-requires
-master-in-place-requires c κs = small c
+master-in-place-requires c κs = search needs
 
 returns-2 : tie.Need-returns-2
 returns-2 c =

@@ -41,7 +41,7 @@ returns : tie.Need-returns
 returns c = let s = c .before .before .before .before in applied-vacant (s .args .from) (s .args .masters) (len s) (len-tops s) _ _ _ (c .before .before .before .first-applied-place .ensures) (c .before .enum-told .given .1) (c .zero-master .ensures)
 
 master-in-place-requires : tie.Need-master-in-place-requires
-master-in-place-requires c κs = small c
+master-in-place-requires c κs = search needs
 
 returns-2 : tie.Need-returns-2
 returns-2 c =
