@@ -11,7 +11,6 @@ use block_records::block_id::key;
 use block_records::block_id::same_id;
 use block_records::entry::BlockCacheEntry;
 use block_records::entry::is_received;
-use block_records::store_records::PrevIds;
 use block_records::top_block::TopBlock;
 use block_records::top_block::TopBlocks;
 use blocks_cache::cache::Cache;

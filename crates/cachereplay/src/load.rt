@@ -14,7 +14,6 @@ use crate::parts::with_id;
 use crate::parts::with_marks;
 use crate::parts::with_shard;
 use crate::parts::with_tops;
-use crate::read::BoundaryRead;
 use crate::read::mark_of;
 use crate::read::read_boundary;
 use crate::read::read_id;
