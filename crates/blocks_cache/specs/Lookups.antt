@@ -22,6 +22,10 @@ abbrev pub entry-in : ℕ → Place → List ShardGroup → EntryAt
 entry-in n (place-at k) gs = entry-at n (getD gs k zero-shard-group .group)
 entry-in n (place-vacant k) gs = record { found = vacant-at 0; entry = zero-entry }
 
--- by shard and seqno alone
+-- among so many groups, by shard and seqno alone
+unfoldable pub entry-in-groups : BlockIdShort → ℕ → List ShardGroup → EntryAt
+entry-in-groups k n gs = entry-in (k .seqno) (shard-place (key-shard k) n gs) gs
+
+-- among the groups of a cache
 unfoldable pub entry-under : BlockIdShort → Cache → EntryAt
-entry-under k c = entry-in (k .seqno) (shard-place (key-shard k) (c .«shard_count») (c .shards)) (c .shards)
+entry-under k c = entry-in-groups k (c .«shard_count») (c .shards)

@@ -13,6 +13,7 @@ use Rattle.block_records.specs.declared.entry.BlockCacheEntry.{BlockCacheEntry}
 use Rattle.block_records.specs.declared.entry.MasterBlock.{MasterBlock}
 use Rattle.block_records.specs.declared.store_records.PrevIds.{PrevIds}
 use Rattle.blocks_cache.specs.declared.cache.Cache.{Cache}
+use Rattle.blocks_cache.specs.declared.cache.ShardGroup.{ShardGroup}
 use Rattle.blocks_cache.specs.declared.master_data.LastId.{LastId}
 use Rattle.blocks_cache.specs.declared.place.Place.{Place}
 use Rattle.blocks_cache.specs.declared.place.Place.the-variants.{At as place-at, Vacant as place-vacant}
@@ -33,7 +34,7 @@ use Rattle.block_records.specs.Zeros.{zero-id, zero-prev-ids, zero-shard}
 use Rattle.blocks_cache.specs.CacheLayout.{HeldOutcome}
 use Rattle.blocks_cache.specs.Calls.{Answer, TailRow, refused, tail-ids}
 use Rattle.blocks_cache.specs.Extraction.{top-id}
-use Rattle.blocks_cache.specs.Lookups.{entry-under}
+use Rattle.blocks_cache.specs.Lookups.{entry-in-groups, entry-under}
 use Rattle.blocks_cache.specs.MasterDataArrays.{pack-last, view-last}
 use Rattle.blocks_cache.specs.Places.{place}
 use Rattle.blocks_cache.specs.TailIdsOnce.{unknown-ids}
@@ -135,6 +136,10 @@ found-step m as-top i (vacant-at k) e = pick as-top (record { given = true; row 
 -- seqno 0 is skipped
 abbrev pub tail-step : ℕ → Bool → BlockId → EntryAt → TailStep
 tail-step m as-top i a = pick (eqb (i .seqno) 0) no-step (found-step m as-top i (a .found) (a .entry))
+
+-- among so many groups
+unfoldable pub step-in : List ShardGroup → ℕ → ℕ → Bool → BlockId → TailStep
+step-in gs n m as-top i = tail-step m as-top i (entry-in-groups (key i) n gs)
 
 -- in a cache
 unfoldable pub step-of : Cache → ℕ → Bool → BlockId → TailStep

@@ -13,11 +13,12 @@ ghost use Rattle.blocks_cache.specs.CacheLayout.{call-on};
 ghost use Rattle.blocks_cache.specs.Extraction.{top-id};
 ghost use Rattle.blocks_cache.specs.TailIdsOnce.{knows};
 ghost use Rattle.blocks_cache.specs.TailArrays.{zero-tail, with-rows, listed-tails, listed-row-count, row-place, less-last, hold-row};
-ghost use Rattle.blocks_cache.specs.TailArrays.{cached-row, missing-row, no-step, tail-step, step-of, hold-given, two-ids, fresh-ids};
+ghost use Rattle.blocks_cache.specs.TailArrays.{cached-row, missing-row, no-step, tail-step, step-in, hold-given, two-ids, fresh-ids};
 ghost use Rattle.blocks_cache.specs.TailArrays.{pack-walk, walk-state, first-state, take-tail-id, take-queued, block-tails, no-tails, read-tails};
 ghost use Rattle.blocks_cache.specs.TailArrays.{tail-outcome, zeroed-tails};
 use crate::cache::Cache;
-use crate::lookup::entry_under;
+use crate::cache::ShardGroup;
+use crate::lookup::entry_in_groups;
 use crate::master_data::LastId;
 use crate::place::Place;
 use crate::soundness::sound_cache;
@@ -260,12 +261,18 @@ fn tail_step(mc_seqno: u32, as_top: bool, id: BlockId, at: EntryAt) -> TailStep
     no_step()
 }
 
-// What an id gives and queues in a cache.
-fn step_of(cache: Cache, mc_seqno: u32, as_top: bool, id: BlockId) -> TailStep
-    ensures { λ r. ⌜ r ≡ step-of cache «mc_seqno» «as_top» id ⌝ }
+// What an id gives and queues, by the groups of a cache.
+fn step_of(
+    shards: [ShardGroup; 8],
+    count: usize,
+    mc_seqno: u32,
+    as_top: bool,
+    id: BlockId,
+) -> TailStep
+    ensures { λ r. ⌜ r ≡ step-in shards count «mc_seqno» «as_top» id ⌝ }
 {
     let short = key(id);
-    let at = entry_under(cache, short);
+    let at = entry_in_groups(shards, count, short);
     tail_step(mc_seqno, as_top, id, at)
 }
 
@@ -354,6 +361,7 @@ fn one_row(row: TailIdsRow) -> TailRows
 fn take_tops(cache: Cache, mc_seqno: u32, first: TailIdsRow, tops: TopBlocks) -> TailWalk
     ensures { λ r. ⌜ r ≡ pack-walk (fold (take-tail-id cache «mc_seqno» true) (first-state first) (each top-id (listed-tops tops))) ⌝ }
 {
+    let shards = cache.shards;
     let mut tails = one_row(first);
     let zero = zero_id();
     let mut ids = [zero; 258];
@@ -366,7 +374,7 @@ fn take_tops(cache: Cache, mc_seqno: u32, first: TailIdsRow, tops: TopBlocks) ->
             return TailWalk { tails, ids, count };
         }
         let item = items[i];
-        let step = step_of(cache, mc_seqno, true, item.block_id);
+        let step = step_of(shards, cache.shard_count, mc_seqno, true, item.block_id);
         tails = hold_given(tails, step);
         let fresh = fresh_ids(ids, count, step.queued);
         ids[count] = fresh.ids[0];
@@ -382,13 +390,14 @@ fn take_queued(cache: Cache, mc_seqno: u32, walk: TailWalk) -> TailRows
     requires { ⌜ (walk .count ≤ 256) × (walk ≡ pack-walk (walk-state walk)) ⌝ }
     ensures { λ r. ⌜ r ≡ take-queued 256 cache «mc_seqno» 0 (walk-state walk) .tails ⌝ }
 {
+    let shards = cache.shards;
     let mut tails = walk.tails;
     let mut ids = walk.ids;
     let mut count = walk.count;
     let mut j: usize = 0;
     while j < count {
         let id = ids[j];
-        let step = step_of(cache, mc_seqno, false, id);
+        let step = step_of(shards, cache.shard_count, mc_seqno, false, id);
         tails = hold_given(tails, step);
         let fresh = fresh_ids(ids, count, step.queued);
         ids[count] = fresh.ids[0];

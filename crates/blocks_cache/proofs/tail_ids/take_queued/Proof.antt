@@ -7,18 +7,18 @@ use borrow.Author.Needs.{needs}
 use lib.ListN.{length}
 use Rattle.block_records.proofs.LoopLaws.{length-mapped}
 use Rattle.block_records.specs.Zeros.{zero-id}
-use Rattle.blocks_cache.proofs.TailWalkLaws.{QueueTaken, queue-end, queue-next, queue-start, waits-few}
+use Rattle.blocks_cache.proofs.TailWalkLaws.{QueueTaken, queue-end, queue-next, queue-start, step-in-cache, waits-few}
 use Rattle.blocks_cache.proofs.tail_ids.take_queued.Statement.{statement}
 use Rattle.blocks_cache.proofs.tail_ids.take_queued.Tie as tie
 
 abbrev Inv-loop : tie.InvT-loop
-Inv-loop cache mc-seqno tails₀ ids₀ count₀ j₀ tails ids count j = QueueTaken cache mc-seqno (record { tails = tails₀; ids = ids₀; count = count₀ }) j tails ids count
+Inv-loop cache mc-seqno shards tails₀ ids₀ count₀ j₀ tails ids count j = QueueTaken cache mc-seqno (record { tails = tails₀; ids = ids₀; count = count₀ }) j tails ids count
 
 abbrev μ-loop : tie.MeasureT-loop
-μ-loop cache mc-seqno tails₀ ids₀ count₀ j₀ tails ids count j = 256 - j
+μ-loop cache mc-seqno shards tails₀ ids₀ count₀ j₀ tails ids count j = 256 - j
 
 loop-holds : tie.Need-loop-holds Inv-loop μ-loop
-loop-holds c = let s = c .before .before in queue-start _ _ _ (s .pre)
+loop-holds c = let s = c .before .before .before in queue-start _ _ _ (s .pre)
 
 mul-id : tie.Need-mul-id Inv-loop μ-loop
 mul-id c = let h = c .before in let l = waits-few (h .loop .inv .waits) in omega arith
@@ -62,8 +62,8 @@ two c = search (needs, length-mapped)
 add-count : tie.Need-add-count Inv-loop μ-loop
 add-count c =
     let h = c .before .before .before .before .before .before .before in
-    let s = c .before .before .before .before .before .before .before .before .before .before in
-    let next = queue-next (s .args .cache) (s .args .mc-seqno) (s .args .walk) (h .loop .j) (h .loop .tails) (h .loop .ids) (h .loop .count) (h .loop .inv) _ (c .before .before .before .before .before .before .loop-test .taken) _ (c .before .before .before .before .step-of .ensures) _ (c .before .before .before .hold-given .ensures) _ (c .before .before .fresh-ids .ensures) (two c) zero-id zero-id in
+    let s = c .before .before .before .before .before .before .before .before .before .before .before in
+    let next = queue-next (s .args .cache) (s .args .mc-seqno) (s .args .walk) (h .loop .j) (h .loop .tails) (h .loop .ids) (h .loop .count) (h .loop .inv) _ (c .before .before .before .before .before .before .loop-test .taken) _ (step-in-cache (s .args .cache) _ _ _ _ (c .before .before .before .before .step-of .ensures)) _ (c .before .before .before .hold-given .ensures) _ (c .before .before .fresh-ids .ensures) (two c) zero-id zero-id in
     let f = waits-few (next .waits) in
     omega arith
 
@@ -80,14 +80,14 @@ loop-less c =
 loop-again : tie.Need-loop-again Inv-loop μ-loop
 loop-again c =
     let h = c .before .before .before .before .before .before .before in
-    let s = c .before .before .before .before .before .before .before .before .before .before in
-    let next = queue-next (s .args .cache) (s .args .mc-seqno) (s .args .walk) (h .loop .j) (h .loop .tails) (h .loop .ids) (h .loop .count) (h .loop .inv) _ (c .before .before .before .before .before .before .loop-test .taken) _ (c .before .before .before .before .step-of .ensures) _ (c .before .before .before .hold-given .ensures) _ (c .before .before .fresh-ids .ensures) (two c) _ _ in
+    let s = c .before .before .before .before .before .before .before .before .before .before .before in
+    let next = queue-next (s .args .cache) (s .args .mc-seqno) (s .args .walk) (h .loop .j) (h .loop .tails) (h .loop .ids) (h .loop .count) (h .loop .inv) _ (c .before .before .before .before .before .before .loop-test .taken) _ (step-in-cache (s .args .cache) _ _ _ _ (c .before .before .before .before .step-of .ensures)) _ (c .before .before .before .hold-given .ensures) _ (c .before .before .fresh-ids .ensures) (two c) _ _ in
     next
 
 returns : tie.Need-returns Inv-loop μ-loop
 returns c =
     let h = c .before in
-    let s = c .before .before .before .before in
+    let s = c .before .before .before .before .before in
     queue-end (s .args .cache) (s .args .mc-seqno) (s .args .walk) (h .loop .j) (h .loop .tails) (h .loop .ids) (h .loop .count) (h .loop .inv) (c .loop-test .left)
 
 pub take-queued-spec : {M : Type 1} → statement M

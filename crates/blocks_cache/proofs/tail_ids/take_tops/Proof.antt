@@ -13,15 +13,15 @@ use Rattle.blocks_cache.specs.Extraction.{top-id}
 use Rattle.blocks_cache.specs.TailArrays.{pack-walk, take-tail-id}
 use lib.ListN.{length}
 use Rattle.block_records.proofs.LoopLaws.{length-mapped}
-use Rattle.blocks_cache.proofs.TailWalkLaws.{TopsTaken, tops-next, tops-over, tops-passed, tops-start, waits-few}
+use Rattle.blocks_cache.proofs.TailWalkLaws.{TopsTaken, step-in-cache, tops-next, tops-over, tops-passed, tops-start, waits-few}
 use Rattle.blocks_cache.proofs.tail_ids.take_tops.Statement.{statement}
 use Rattle.blocks_cache.proofs.tail_ids.take_tops.Tie as tie
 
 abbrev Inv-loop : tie.InvT-loop
-Inv-loop cache mc-seqno tails₀ ids₀ count₀ items listed i₀ tails ids count i = (i ≤ 8) × TopsTaken cache mc-seqno items listed tails₀ i tails ids count
+Inv-loop cache mc-seqno shards tails₀ ids₀ count₀ items listed i₀ tails ids count i = (i ≤ 8) × TopsTaken cache mc-seqno items listed tails₀ i tails ids count
 
 abbrev μ-loop : tie.MeasureT-loop
-μ-loop cache mc-seqno tails₀ ids₀ count₀ items listed i₀ tails ids count i = 8 - i
+μ-loop cache mc-seqno shards tails₀ ids₀ count₀ items listed i₀ tails ids count i = 8 - i
 
 long : (c : tie.Start Inv-loop μ-loop) → length (c .args .tops .items) ≡ 8
 long c = search (needs, length-mapped)
@@ -38,7 +38,7 @@ loop-holds c = (search needs, tops-start _ _ _ _ _ _ (c .before .zero-id .ensure
 returns : tie.Need-returns Inv-loop μ-loop
 returns c =
     let h = c .before .before in
-    let s = c .before .before .before .before .before .before in
+    let s = c .before .before .before .before .before .before .before in
     tops-passed (s .args .cache) (s .args .mc-seqno) (s .args .tops .items) (s .args .tops .count) _ (h .loop .i) (h .loop .tails) (h .loop .ids) (h .loop .count) (h .loop .inv .1) (c .if1 .taken)
     ∙ ap (λ t. pack-walk (fold (take-tail-id (s .args .cache) (s .args .mc-seqno) true) (record { tails = t; known = [] }) (each top-id (listed-tops (s .args .tops))))) (c .before .before .before .before .before .one-row .ensures)
 
@@ -84,10 +84,10 @@ two c = search (needs, length-mapped)
 add-count : tie.Need-add-count Inv-loop μ-loop
 add-count c =
     let h = c .before .before .before .before .before .before .before .before in
-    let s = c .before .before .before .before .before .before .before .before .before .before .before .before in
+    let s = c .before .before .before .before .before .before .before .before .before .before .before .before .before in
     let n = long s in
     let l = c .before .before .before .before .before .before .before .loop-test .taken in
-    let next = tops-next (s .args .cache) (s .args .mc-seqno) (s .args .tops .items) (s .args .tops .count) _ (h .loop .i) (h .loop .tails) (h .loop .ids) (h .loop .count) (h .loop .inv .1) _ (omega arith) (c .before .before .before .before .before .before .if1 .left) _ (c .before .before .before .before .step-of .ensures) _ (c .before .before .before .hold-given .ensures) _ (c .before .before .fresh-ids .ensures) (two c) zero-id zero-id in
+    let next = tops-next (s .args .cache) (s .args .mc-seqno) (s .args .tops .items) (s .args .tops .count) _ (h .loop .i) (h .loop .tails) (h .loop .ids) (h .loop .count) (h .loop .inv .1) _ (omega arith) (c .before .before .before .before .before .before .if1 .left) _ (step-in-cache (s .args .cache) _ _ _ _ (c .before .before .before .before .step-of .ensures)) _ (c .before .before .before .hold-given .ensures) _ (c .before .before .fresh-ids .ensures) (two c) zero-id zero-id in
     let f = waits-few (next .waits) in
     omega arith
 
@@ -100,15 +100,15 @@ loop-less c = search needs
 loop-again : tie.Need-loop-again Inv-loop μ-loop
 loop-again c =
     let h = c .before .before .before .before .before .before .before .before in
-    let s = c .before .before .before .before .before .before .before .before .before .before .before .before in
+    let s = c .before .before .before .before .before .before .before .before .before .before .before .before .before in
     let n = long s in
     let l = c .before .before .before .before .before .before .before .loop-test .taken in
-    (omega arith, tops-next (s .args .cache) (s .args .mc-seqno) (s .args .tops .items) (s .args .tops .count) _ (h .loop .i) (h .loop .tails) (h .loop .ids) (h .loop .count) (h .loop .inv .1) _ (omega arith) (c .before .before .before .before .before .before .if1 .left) _ (c .before .before .before .before .step-of .ensures) _ (c .before .before .before .hold-given .ensures) _ (c .before .before .fresh-ids .ensures) (two c) _ _)
+    (omega arith, tops-next (s .args .cache) (s .args .mc-seqno) (s .args .tops .items) (s .args .tops .count) _ (h .loop .i) (h .loop .tails) (h .loop .ids) (h .loop .count) (h .loop .inv .1) _ (omega arith) (c .before .before .before .before .before .before .if1 .left) _ (step-in-cache (s .args .cache) _ _ _ _ (c .before .before .before .before .step-of .ensures)) _ (c .before .before .before .hold-given .ensures) _ (c .before .before .fresh-ids .ensures) (two c) _ _)
 
 returns-2 : tie.Need-returns-2 Inv-loop μ-loop
 returns-2 c =
     let h = c .before in
-    let s = c .before .before .before .before .before in
+    let s = c .before .before .before .before .before .before in
     let n = long s in
     let l = c .loop-test .left in
     tops-over (s .args .cache) (s .args .mc-seqno) (s .args .tops .items) (s .args .tops .count) _ (h .loop .i) (h .loop .tails) (h .loop .ids) (h .loop .count) (h .loop .inv .1) (omega arith)
