@@ -15,6 +15,7 @@ use Rattle.block_records.specs.declared.entry.BlockCacheEntry.{BlockCacheEntry}
 use Rattle.block_records.specs.declared.entry.MasterBlock.{MasterBlock}
 use Rattle.block_records.specs.declared.top_block.TopBlock.{TopBlock}
 use Rattle.blocks_cache.specs.declared.cache.Cache.{Cache}
+use Rattle.blocks_cache.specs.declared.cache.ShardGroup.{ShardGroup}
 use Rattle.blocks_cache.specs.declared.peek.MissingTop.the-variants.{Absent as no-missing, At as missing-at}
 use Rattle.blocks_cache.specs.declared.peek.Peek.{Peek}
 use Rattle.blocks_cache.specs.declared.peek.PeekAnswer.{PeekAnswer}
@@ -44,9 +45,9 @@ use Rattle.blocks_cache.specs.Calls.{Row, View, peek, peeked, unlent}
 use Rattle.blocks_cache.specs.CaseCalls.{slice}
 use Rattle.blocks_cache.specs.Effects.{answered, effect, outcome-of, peek-entry}
 use Rattle.blocks_cache.specs.Extraction.{seen-top, starting-items, starts, view-tops}
-use Rattle.blocks_cache.specs.Lookups.{entry-under}
+use Rattle.blocks_cache.specs.Lookups.{entry-in-groups, entry-under}
 use Rattle.blocks_cache.specs.Model.{Model, first-applied, lookup}
-use Rattle.blocks_cache.specs.Peeks.{found-peek, held-tops, naming-row, pack-missing, pack-row, pack-seen, pack-view, peek-block, peek-held, peek-outcome, peek-says, seen-held, top-row, view-missing, view-row, zero-peek, zero-row, zeroed-peek}
+use Rattle.blocks_cache.specs.Peeks.{found-peek, held-tops, naming-row, pack-missing, pack-row, pack-seen, pack-view, peek-block, peek-held, peek-outcome, peek-says, seen-held, top-row, top-row-in, view-missing, view-row, zero-peek, zero-row, zeroed-peek}
 use Rattle.blocks_cache.specs.Refusals.{further, sound}
 use Rattle.blocks_group.proofs.GroupLayoutLaws.{take-padded-each}
 use Rattle.blocks_group.proofs.QueryLaws.{first-applied-packed}
@@ -150,27 +151,27 @@ module _ (c : Cache) (f : ℕ) (r : Peek) where
 
 -- ===== a top's row =====
 
-module _ (m : ℕ) (c : Cache) (t : TopBlock) (k : BlockIdShort) (of-item : k ≡ key (t .«block_id»)) (a : EntryAt) (looked : a ≡ entry-under k c) where
-  row-is : (f : Found) → a .found ≡ f → naming-row m t (when-found f (a .entry)) ≡ top-row m c t
-  unfolding top-row
+module _ (m n : ℕ) (gs : List ShardGroup) (t : TopBlock) (k : BlockIdShort) (of-item : k ≡ key (t .«block_id»)) (a : EntryAt) (looked : a ≡ entry-in-groups k n gs) where
+  row-is : (f : Found) → a .found ≡ f → naming-row m t (when-found f (a .entry)) ≡ top-row-in m n gs t
+  unfolding top-row-in
   row-is f e =
       ap (λ (x : Found). naming-row m t (when-found x (a .entry))) (sym e) ∙ ap (λ (x : EntryAt). naming-row m t (answered-entry x)) looked
-      ∙ ap (λ (x : BlockIdShort). naming-row m t (answered-entry (entry-under x c))) of-item
+      ∙ ap (λ (x : BlockIdShort). naming-row m t (answered-entry (entry-in-groups x n gs))) of-item
 
   module _ (z : PeekRow) (zeros : z ≡ zero-row) where
-    pub row-vacant : (i : ℕ) → a .found ≡ vacant-at i → record { seen = false; row = z } ≡ pack-seen (top-row m c t)
+    pub row-vacant : (i : ℕ) → a .found ≡ vacant-at i → record { seen = false; row = z } ≡ pack-seen (top-row-in m n gs t)
     row-vacant i e = ap (λ (x : PeekRow). record { seen = false; row = x }) zeros ∙ ap pack-seen (row-is (vacant-at i) e)
 
-    pub row-foreign : (i : ℕ) → a .found ≡ found-at i → (a .entry .«ref_by_mc_seqno» ≡ m → ⊥) → record { seen = false; row = z } ≡ pack-seen (top-row m c t)
-    row-foreign i e n =
-        let q : none ≡ naming-row m t (some (a .entry)) = rw (ne-eqb (a .entry .«ref_by_mc_seqno») m n) in
+    pub row-foreign : (i : ℕ) → a .found ≡ found-at i → (a .entry .«ref_by_mc_seqno» ≡ m → ⊥) → record { seen = false; row = z } ≡ pack-seen (top-row-in m n gs t)
+    row-foreign i e o =
+        let q : none ≡ naming-row m t (some (a .entry)) = rw (ne-eqb (a .entry .«ref_by_mc_seqno») m o) in
         ap (λ (x : PeekRow). record { seen = false; row = x }) zeros ∙ ap pack-seen (q ∙ row-is (found-at i) e)
 
   pub row-naming : (i : ℕ) → a .found ≡ found-at i → a .entry .«ref_by_mc_seqno» ≡ m →
-      record { seen = true; row = record { «block_id» = t .«block_id»; «ref_by_mc_seqno» = t .«ref_by_mc_seqno»; payload = a .entry .payload } } ≡ pack-seen (top-row m c t)
-  row-naming i e n =
+      record { seen = true; row = record { «block_id» = t .«block_id»; «ref_by_mc_seqno» = t .«ref_by_mc_seqno»; payload = a .entry .payload } } ≡ pack-seen (top-row-in m n gs t)
+  row-naming i e o =
       let q : some (record { id = t .«block_id»; reference = t .«ref_by_mc_seqno»; payload = a .entry .payload }) ≡ naming-row m t (some (a .entry)) =
-      rw (eq-eqb (a .entry .«ref_by_mc_seqno») m n) in
+      rw (eq-eqb (a .entry .«ref_by_mc_seqno») m o) in
       ap pack-seen (q ∙ row-is (found-at i) e)
 
 -- what a row as it is handed on says
@@ -181,6 +182,11 @@ seen-yes (some r) x e h = (r, (refl, ap (λ (y : SeenTop). y .row) e))
 seen-no : (o : Option Row) (x : SeenTop) → x ≡ pack-seen o → x .seen ≡ false → o ≡ none
 seen-no none x e h = refl
 seen-no (some r) x e h = clash (ap (λ (y : SeenTop). y .seen) e) h
+
+-- the groups are all of a cache that a top's row reads
+pub row-in-cache : (m : ℕ) (c : Cache) (t : TopBlock) (x : SeenTop) → x ≡ pack-seen (top-row-in m (c .«shard_count») (c .shards) t) → x ≡ pack-seen (top-row m c t)
+unfolding top-row-in top-row entry-under
+row-in-cache m c t x e = e
 
 -- ===== the loop over the items =====
 

@@ -12,6 +12,7 @@ use Rattle.block_records.specs.declared.entry.BlockCacheEntry.{BlockCacheEntry}
 use Rattle.block_records.specs.declared.entry.MasterBlock.{MasterBlock}
 use Rattle.block_records.specs.declared.top_block.TopBlock.{TopBlock}
 use Rattle.blocks_cache.specs.declared.cache.Cache.{Cache}
+use Rattle.blocks_cache.specs.declared.cache.ShardGroup.{ShardGroup}
 use Rattle.blocks_cache.specs.declared.peek.MissingTop.{MissingTop}
 use Rattle.blocks_cache.specs.declared.peek.MissingTop.the-variants.{Absent as no-missing, At as missing-at}
 use Rattle.blocks_cache.specs.declared.peek.Peek.{Peek}
@@ -26,7 +27,7 @@ use Rattle.block_records.specs.Zeros.{zero-id}
 use Rattle.blocks_cache.specs.CacheLayout.{HeldOutcome}
 use Rattle.blocks_cache.specs.Calls.{Answer, Row, View, nothing, peeked, refused}
 use Rattle.blocks_cache.specs.Extraction.{starts}
-use Rattle.blocks_cache.specs.Lookups.{entry-under}
+use Rattle.blocks_cache.specs.Lookups.{entry-in-groups, entry-under}
 use Rattle.blocks_group.specs.GroupArrays.{answered-entry, answered-master}
 use Rattle.blocks_group.specs.GroupQueries.{first-applied-master}
 
@@ -85,7 +86,11 @@ naming-row m t none = none
 naming-row m t (some b) =
     pick (eqb (b .«ref_by_mc_seqno») m) (some (record { id = t .«block_id»; reference = t .«ref_by_mc_seqno»; payload = b .payload })) none
 
--- the row of a top that is cached naming M
+-- the row of a top that is cached naming M, among so many groups
+unfoldable pub top-row-in : ℕ → ℕ → List ShardGroup → TopBlock → Option Row
+top-row-in m n gs t = naming-row m t (answered-entry (entry-in-groups (key (t .«block_id»)) n gs))
+
+-- in a cache
 unfoldable pub top-row : ℕ → Cache → TopBlock → Option Row
 top-row m c t = naming-row m t (answered-entry (entry-under (key (t .«block_id»)) c))
 

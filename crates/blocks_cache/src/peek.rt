@@ -5,9 +5,10 @@ ghost use Rattle.block_records.specs.Lists.{filter};
 ghost use Rattle.blocks_cache.specs.Calls.{peek, unlent};
 ghost use Rattle.blocks_cache.specs.CacheLayout.{call-on};
 ghost use Rattle.blocks_cache.specs.Extraction.{starts};
-ghost use Rattle.blocks_cache.specs.Peeks.{held-tops, pack-seen, pack-view, peek-held, peek-outcome, top-row, zero-peek, zero-row, zeroed-peek};
+ghost use Rattle.blocks_cache.specs.Peeks.{held-tops, pack-seen, pack-view, peek-held, peek-outcome, top-row-in, zero-peek, zero-row, zeroed-peek};
 use crate::cache::Cache;
-use crate::lookup::entry_under;
+use crate::cache::ShardGroup;
+use crate::lookup::entry_in_groups;
 use crate::soundness::sound_cache;
 use block_records::block_id::BlockId;
 use block_records::block_id::BlockIdShort;
@@ -93,11 +94,11 @@ fn is_starting(item: TopBlock, zerostate: u32) -> bool
 }
 
 // The row of a top that is cached naming the master; id and reference are the item's.
-fn top_row(cache: Cache, seqno: u32, item: TopBlock) -> SeenTop
-    ensures { λ r. ⌜ r ≡ pack-seen (top-row seqno cache item) ⌝ }
+fn top_row(shards: [ShardGroup; 8], count: usize, seqno: u32, item: TopBlock) -> SeenTop
+    ensures { λ r. ⌜ r ≡ pack-seen (top-row-in seqno count shards item) ⌝ }
 {
     let short = key(item.block_id);
-    let at = entry_under(cache, short);
+    let at = entry_in_groups(shards, count, short);
     let found = at.found;
     let Found::At(_) = found else {
         let row = zero_row();
@@ -121,6 +122,7 @@ fn top_row(cache: Cache, seqno: u32, item: TopBlock) -> SeenTop
 fn view_tops(cache: Cache, seqno: u32, tops: TopBlocks) -> TopRows
     ensures { λ r. ⌜ r ≡ pack-view (held-tops seqno cache (filter (starts (cache .«zerostate_mc_seqno»)) (listed-tops tops))) ⌝ }
 {
+    let shards = cache.shards;
     let zero = zero_row();
     let mut rows = [zero; 8];
     let mut count: usize = 0;
@@ -137,7 +139,7 @@ fn view_tops(cache: Cache, seqno: u32, tops: TopBlocks) -> TopRows
             i += 1;
             continue;
         }
-        let top = top_row(cache, seqno, item);
+        let top = top_row(shards, cache.shard_count, seqno, item);
         if !top.seen {
             let short = key(item.block_id);
             let gap = MissingTop::At(short);

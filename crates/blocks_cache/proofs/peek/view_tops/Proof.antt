@@ -6,16 +6,16 @@ use native.Mathlib.Omega.{arith}
 use borrow.Author.Tests.{not-false, not-true}
 use lib.ListN.{length}
 use Rattle.block_records.proofs.LoopLaws.{length-mapped}
-use Rattle.blocks_cache.proofs.PeekLaws.{Viewed, view-more, view-over, view-passed, view-skip, view-start, view-stop}
+use Rattle.blocks_cache.proofs.PeekLaws.{Viewed, row-in-cache, view-more, view-over, view-passed, view-skip, view-start, view-stop}
 use borrow.Author.Needs.{needs}
 use Rattle.blocks_cache.proofs.peek.view_tops.Statement.{statement}
 use Rattle.blocks_cache.proofs.peek.view_tops.Tie as tie
 
 abbrev Inv-loop : tie.InvT-loop
-Inv-loop cache seqno rows₀ count₀ items listed i₀ rows count i = (i ≤ 8) × Viewed seqno cache items listed i count rows
+Inv-loop cache seqno shards rows₀ count₀ items listed i₀ rows count i = (i ≤ 8) × Viewed seqno cache items listed i count rows
 
 abbrev μ-loop : tie.MeasureT-loop
-μ-loop cache seqno rows₀ count₀ items listed i₀ rows count i = 8 - i
+μ-loop cache seqno shards rows₀ count₀ items listed i₀ rows count i = 8 - i
 
 long : (c : tie.Start Inv-loop μ-loop) → length (c .args .tops .items) ≡ 8
 long c = search (needs, length-mapped)
@@ -24,12 +24,12 @@ zero-row-requires : tie.Need-zero-row-requires Inv-loop μ-loop
 zero-row-requires c κs = search needs
 
 loop-holds : tie.Need-loop-holds Inv-loop μ-loop
-loop-holds c = let s = c .before .before in (search needs, view-start (s .args .seqno) (s .args .cache) (s .args .tops .items) (s .args .tops .count) _ (c .before .zero-row .ensures))
+loop-holds c = let s = c .before .before .before in (search needs, view-start (s .args .seqno) (s .args .cache) (s .args .tops .items) (s .args .tops .count) _ (c .before .zero-row .ensures))
 
 returns : tie.Need-returns Inv-loop μ-loop
 returns c =
     let h = c .before .before in
-    let s = h .before .before .before in
+    let s = h .before .before .before .before in
     view-passed (s .args .seqno) (s .args .cache) (s .args .tops .items) (s .args .tops .count) (h .loop .i) (h .loop .count) (h .loop .rows) (h .loop .inv .1) (c .if1 .taken)
 
 mul-item : tie.Need-mul-item Inv-loop μ-loop
@@ -50,7 +50,7 @@ loop-less c = search needs
 loop-again : tie.Need-loop-again Inv-loop μ-loop
 loop-again c =
     let h = c .before .before .before .before .before in
-    let s = h .before .before .before in
+    let s = h .before .before .before .before in
     let n = long s in
     let l = c .before .before .before .before .loop-test .taken in
     (search needs, view-skip (s .args .seqno) (s .args .cache) (s .args .tops .items) (s .args .tops .count) (h .loop .i) (h .loop .count) (h .loop .rows) (h .loop .inv .1) _ (omega arith) (c .before .before .before .if1 .left) (sym (c .before .is-starting .ensures) ∙ not-true (c .before .is-starting .result) (c .if2 .taken)))
@@ -64,10 +64,10 @@ key-requires c κs = search needs
 returns-2 : tie.Need-returns-2 Inv-loop μ-loop
 returns-2 c =
     let h = c .before .before .before .before .before .before .before .before .before in
-    let s = h .before .before .before in
+    let s = h .before .before .before .before in
     let n = long s in
     let l = c .before .before .before .before .before .before .before .before .loop-test .taken in
-    view-stop (s .args .seqno) (s .args .cache) (s .args .tops .items) (s .args .tops .count) (h .loop .i) (h .loop .count) (h .loop .rows) (h .loop .inv .1) _ (omega arith) (c .before .before .before .before .before .before .before .if1 .left) (sym (c .before .before .before .before .before .is-starting .ensures) ∙ not-false (c .before .before .before .before .before .is-starting .result) (c .before .before .before .before .if2 .left)) _ (c .before .before .before .top-row .ensures) (not-true _ (c .before .if3 .taken)) _ (c .key .ensures)
+    view-stop (s .args .seqno) (s .args .cache) (s .args .tops .items) (s .args .tops .count) (h .loop .i) (h .loop .count) (h .loop .rows) (h .loop .inv .1) _ (omega arith) (c .before .before .before .before .before .before .before .if1 .left) (sym (c .before .before .before .before .before .is-starting .ensures) ∙ not-false (c .before .before .before .before .before .is-starting .result) (c .before .before .before .before .if2 .left)) _ (row-in-cache (s .args .seqno) (s .args .cache) _ _ (c .before .before .before .top-row .ensures)) (not-true _ (c .before .if3 .taken)) _ (c .key .ensures)
 
 mul-rows : tie.Need-mul-rows Inv-loop μ-loop
 mul-rows c = let f = c .before .before .before .before .before .before .before .before .before .loop .inv .1 .few in let l = c .before .before .before .before .before .before .before .before .loop-test .taken in omega arith
@@ -87,15 +87,15 @@ loop-less-2 c = search needs
 loop-again-2 : tie.Need-loop-again-2 Inv-loop μ-loop
 loop-again-2 c =
     let h = c .before .before .before .before .before .before .before .before .before in
-    let s = h .before .before .before in
+    let s = h .before .before .before .before in
     let n = long s in
     let l = c .before .before .before .before .before .before .before .before .loop-test .taken in
-    (search needs, view-more (s .args .seqno) (s .args .cache) (s .args .tops .items) (s .args .tops .count) (h .loop .i) (h .loop .count) (h .loop .rows) (h .loop .inv .1) _ (omega arith) (c .before .before .before .before .before .before .before .if1 .left) (sym (c .before .before .before .before .before .is-starting .ensures) ∙ not-false (c .before .before .before .before .before .is-starting .result) (c .before .before .before .before .if2 .left)) _ (c .before .before .before .top-row .ensures) (not-false _ (c .before .if3 .left)) l)
+    (search needs, view-more (s .args .seqno) (s .args .cache) (s .args .tops .items) (s .args .tops .count) (h .loop .i) (h .loop .count) (h .loop .rows) (h .loop .inv .1) _ (omega arith) (c .before .before .before .before .before .before .before .if1 .left) (sym (c .before .before .before .before .before .is-starting .ensures) ∙ not-false (c .before .before .before .before .before .is-starting .result) (c .before .before .before .before .if2 .left)) _ (row-in-cache (s .args .seqno) (s .args .cache) _ _ (c .before .before .before .top-row .ensures)) (not-false _ (c .before .if3 .left)) l)
 
 returns-3 : tie.Need-returns-3 Inv-loop μ-loop
 returns-3 c =
     let h = c .before in
-    let s = h .before .before .before in
+    let s = h .before .before .before .before in
     let n = long s in
     let l = c .loop-test .left in
     view-over (s .args .seqno) (s .args .cache) (s .args .tops .items) (s .args .tops .count) (h .loop .i) (h .loop .count) (h .loop .rows) (h .loop .inv .1) (omega arith)
