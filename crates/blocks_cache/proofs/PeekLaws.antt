@@ -61,7 +61,7 @@ row-packed m t none rest = refl
 row-packed m t (some e) rest = on (eqb (e .reference) m) (λ u. rw u) (λ u. rw u)
 
 tops-packed : (n : ℕ) (m : Model) → sound m ≡ true → (ts : List TopBlock) → held-tops n (pack m) ts ≡ view-tops n (m .shards) ts
-unfolding top-row
+unfolding top-row-in entry-under
 tops-packed n m ok [] = refl
 tops-packed n m ok (t ∷ ts) =
     ap₂ (λ (o : Option BlockCacheEntry) (v : View). seen-held t (naming-row n t o) v) (entry-under-packed (key (t .«block_id»)) m ok) (tops-packed n m ok ts)
@@ -182,11 +182,6 @@ seen-yes (some r) x e h = (r, (refl, ap (λ (y : SeenTop). y .row) e))
 seen-no : (o : Option Row) (x : SeenTop) → x ≡ pack-seen o → x .seen ≡ false → o ≡ none
 seen-no none x e h = refl
 seen-no (some r) x e h = clash (ap (λ (y : SeenTop). y .seen) e) h
-
--- the groups are all of a cache that a top's row reads
-pub row-in-cache : (m : ℕ) (c : Cache) (t : TopBlock) (x : SeenTop) → x ≡ pack-seen (top-row-in m (c .«shard_count») (c .shards) t) → x ≡ pack-seen (top-row m c t)
-unfolding top-row-in top-row entry-under
-row-in-cache m c t x e = e
 
 -- ===== the loop over the items =====
 

@@ -62,7 +62,7 @@ use Rattle.blocks_cache.specs.MasterDataArrays.{pack-last, view-last}
 use Rattle.blocks_cache.specs.Model.{Model, ShardModel, lookup}
 use Rattle.blocks_cache.specs.Places.{place}
 use Rattle.blocks_cache.specs.Refusals.{further, sound}
-use Rattle.blocks_cache.specs.TailArrays.{TailState, block-tails, cached-row, found-step, fresh-ids, given-tails, hold-given, hold-row, less-last, listed-tails, missing-row, no-step, no-tails, pack-tail, pack-tails, put-row, read-tails, replaces-row, row-at, row-before, row-below, row-held-at, row-place, step-of, tail-outcome, tails-at, take-queued, take-tail-id, view-tail, view-tails, zero-tail, zeroed-tails}
+use Rattle.blocks_cache.specs.TailArrays.{TailState, block-tails, cached-row, found-step, fresh-ids, given-tails, hold-given, hold-row, less-last, listed-tails, missing-row, no-step, no-tails, pack-tail, pack-tails, put-row, read-tails, replaces-row, row-at, row-before, row-below, row-held-at, row-place, step-in, step-of, tail-outcome, tails-at, take-queued, take-tail-id, view-tail, view-tails, zero-tail, zeroed-tails}
 use Rattle.blocks_cache.specs.TailIds.{first-row, found-gives, found-queues, gives, held, hold, less-option, queues, tail-before, tails-of, top-ids}
 use Rattle.blocks_cache.specs.TailIdsOnce.{OnceWalk, knows, once-begin, once-id, once-one, once-times, unknown-ids}
 use Rattle.blocks_group.proofs.GroupArrayLaws.{master-at-packed}
@@ -194,7 +194,7 @@ module _ (m : ℕ) (as-top : Bool) (i : BlockId) where
       some-inj p = cc
 
   step-says : (mo : Model) → sound mo ≡ true → Says (step-of (pack mo) m as-top i) (gives (mo .shards) m as-top i) (queues (mo .shards) m as-top i)
-  unfolding step-of
+  unfolding step-in entry-under
   step-says mo ok =
       let a = entry-under (key i) (pack mo) in
       let f = found-says (a .found) (a .entry) (lookup (mo .shards) (key i)) (entry-under-packed (key i) mo ok) in

@@ -35,8 +35,7 @@ use Rattle.block_records.specs.Zeros.{zero-id}
 use Rattle.blocks_cache.proofs.CountLaws.{places}
 use Rattle.blocks_cache.proofs.TailLevels.{first}
 use Rattle.blocks_cache.specs.Extraction.{top-id}
-use Rattle.blocks_cache.specs.Lookups.{entry-under}
-use Rattle.blocks_cache.specs.TailArrays.{TailState, block-tails, cached-row, first-state, fresh-ids, given-tails, hold-given, no-tails, pack-walk, read-tails, step-in, step-of, stepped, tails-at, take-queued, take-queued-at, take-tail-id, walk-state}
+use Rattle.blocks_cache.specs.TailArrays.{TailState, block-tails, cached-row, first-state, fresh-ids, given-tails, hold-given, no-tails, pack-walk, read-tails, step-of, stepped, tails-at, take-queued, take-queued-at, take-tail-id, walk-state}
 use Rattle.blocks_cache.specs.TailIds.{waits}
 use Rattle.blocks_cache.specs.TailIdsOnce.{unknown-ids}
 use Rattle.blocks_group.proofs.GroupLoopLaws.{walk}
@@ -105,11 +104,6 @@ waits-none z e = record { known = []; few = omega arith; number = refl; places =
 
 pub waits-few : {ids : List BlockId} {count : ℕ} → Waits ids count → count ≤ 256
 waits-few w = omega (arith, w .few, w .number)
-
--- the groups are all of a cache that a step reads
-pub step-in-cache : (c : Cache) (m : ℕ) (as-top : Bool) (i : BlockId) (s : TailStep) → s ≡ step-in (c .shards) (c .«shard_count») m as-top i → s ≡ step-of c m as-top i
-unfolding step-in step-of entry-under
-step-in-cache c m as-top i s e = e
 
 -- one id is taken
 module _ (c : Cache) (m : ℕ) (as-top : Bool) (tails : TailRows) (ids : List BlockId) (count : ℕ) (w : Waits ids count) (i : BlockId) (s : TailStep) (of-step : s ≡ step-of c m as-top i)

@@ -27,7 +27,7 @@ use Rattle.block_records.specs.Zeros.{zero-id}
 use Rattle.blocks_cache.specs.CacheLayout.{HeldOutcome}
 use Rattle.blocks_cache.specs.Calls.{Answer, Row, View, nothing, peeked, refused}
 use Rattle.blocks_cache.specs.Extraction.{starts}
-use Rattle.blocks_cache.specs.Lookups.{entry-in-groups, entry-under}
+use Rattle.blocks_cache.specs.Lookups.{entry-in-groups}
 use Rattle.blocks_group.specs.GroupArrays.{answered-entry, answered-master}
 use Rattle.blocks_group.specs.GroupQueries.{first-applied-master}
 
@@ -91,8 +91,8 @@ unfoldable pub top-row-in : ℕ → ℕ → List ShardGroup → TopBlock → Opt
 top-row-in m n gs t = naming-row m t (answered-entry (entry-in-groups (key (t .«block_id»)) n gs))
 
 -- in a cache
-unfoldable pub top-row : ℕ → Cache → TopBlock → Option Row
-top-row m c t = naming-row m t (answered-entry (entry-under (key (t .«block_id»)) c))
+abbrev pub top-row : ℕ → Cache → TopBlock → Option Row
+top-row m c t = top-row-in m (c .«shard_count») (c .shards) t
 
 -- where there is none, zeros
 abbrev pub pack-seen : Option Row → SeenTop

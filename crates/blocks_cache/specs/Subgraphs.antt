@@ -1,5 +1,5 @@
 -- Document 01, Whole cache: pop and sync extraction as the code answers them, for every cache, request and number of places that the lent
--- slice has. What each answer says as the rules' answer is `extract-answer`; proofs/SubgraphLaws says that it is the rules' call.
+-- slice has. What each answer says as the rules' answer is `answer-of`; proofs/SubgraphLaws says that it is the rules' call.
 -- Assumes nothing.
 use mathlib.Core.List.{List, [], _∷_}
 use mathlib.Core.Option.{Option, none, some}

@@ -34,7 +34,7 @@ use Rattle.block_records.specs.Zeros.{zero-id, zero-prev-ids, zero-shard}
 use Rattle.blocks_cache.specs.CacheLayout.{HeldOutcome}
 use Rattle.blocks_cache.specs.Calls.{Answer, TailRow, refused, tail-ids}
 use Rattle.blocks_cache.specs.Extraction.{top-id}
-use Rattle.blocks_cache.specs.Lookups.{entry-in-groups, entry-under}
+use Rattle.blocks_cache.specs.Lookups.{entry-in-groups}
 use Rattle.blocks_cache.specs.MasterDataArrays.{pack-last, view-last}
 use Rattle.blocks_cache.specs.Places.{place}
 use Rattle.blocks_cache.specs.TailIdsOnce.{unknown-ids}
@@ -138,12 +138,12 @@ abbrev pub tail-step : ℕ → Bool → BlockId → EntryAt → TailStep
 tail-step m as-top i a = pick (eqb (i .seqno) 0) no-step (found-step m as-top i (a .found) (a .entry))
 
 -- among so many groups
-unfoldable pub step-in : List ShardGroup → ℕ → ℕ → Bool → BlockId → TailStep
-step-in gs n m as-top i = tail-step m as-top i (entry-in-groups (key i) n gs)
+unfoldable pub step-in : ℕ → List ShardGroup → ℕ → Bool → BlockId → TailStep
+step-in n gs m as-top i = tail-step m as-top i (entry-in-groups (key i) n gs)
 
 -- in a cache
-unfoldable pub step-of : Cache → ℕ → Bool → BlockId → TailStep
-step-of c m as-top i = tail-step m as-top i (entry-under (key i) c)
+abbrev pub step-of : Cache → ℕ → Bool → BlockId → TailStep
+step-of c m as-top i = step-in (c .«shard_count») (c .shards) m as-top i
 
 -- the row, where one is given
 abbrev pub hold-given : TailStep → TailRows → TailRows

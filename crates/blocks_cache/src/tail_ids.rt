@@ -269,7 +269,7 @@ fn step_of(
     as_top: bool,
     id: BlockId,
 ) -> TailStep
-    ensures { λ r. ⌜ r ≡ step-in shards count «mc_seqno» «as_top» id ⌝ }
+    ensures { λ r. ⌜ r ≡ step-in count shards «mc_seqno» «as_top» id ⌝ }
 {
     let short = key(id);
     let at = entry_in_groups(shards, count, short);

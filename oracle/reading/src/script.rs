@@ -117,16 +117,26 @@ fn request(word: &str, r: &mut Reader) -> Read<Request> {
     })
 }
 
-fn candidate(r: &mut Reader) -> Read<Candidate> {
+/// A block's id and the master that it names.
+fn named(r: &mut Reader) -> Read<(Id, u32)> {
     let id = r.id()?;
     r.expect(" ref=")?;
-    let reference = r.u32()?;
+    Ok((id, r.u32()?))
+}
+
+/// Previous ids, top items and the top anchor.
+fn lists(r: &mut Reader) -> Read<(Vec<Id>, Vec<Top>, Option<u32>)> {
     r.expect(" prev=")?;
     let prev = r.ids()?;
     r.expect(" top=")?;
     let tops = r.tops()?;
     r.expect(" anchor=")?;
-    let anchor = r.opt()?;
+    Ok((prev, tops, r.opt()?))
+}
+
+fn candidate(r: &mut Reader) -> Read<Candidate> {
+    let (id, reference) = named(r)?;
+    let (prev, tops, anchor) = lists(r)?;
     r.expect(" pta=")?;
     let processed_to = r.u32()?;
     r.expect(" pay=")?;
@@ -137,12 +147,7 @@ fn received(r: &mut Reader) -> Read<Received> {
     let id = r.id()?;
     r.expect(" mc=")?;
     let reference = r.id()?;
-    r.expect(" prev=")?;
-    let prev = r.ids()?;
-    r.expect(" top=")?;
-    let tops = r.tops()?;
-    r.expect(" anchor=")?;
-    let anchor = r.opt()?;
+    let (prev, tops, anchor) = lists(r)?;
     r.expect(" pay=")?;
     Ok(Received { id, reference, prev, tops, anchor, payload: r.u64()? })
 }
@@ -175,15 +180,8 @@ fn mark_and_boundary(r: &mut Reader) -> Read<(Option<u32>, Option<Key>)> {
 }
 
 fn entry(r: &mut Reader) -> Read<Entry> {
-    let id = r.id()?;
-    r.expect(" ref=")?;
-    let reference = r.u32()?;
-    r.expect(" prev=")?;
-    let prev = r.ids()?;
-    r.expect(" top=")?;
-    let tops = r.tops()?;
-    r.expect(" anchor=")?;
-    let anchor = r.opt()?;
+    let (id, reference) = named(r)?;
+    let (prev, tops, anchor) = lists(r)?;
     r.expect(" pay=")?;
     let payload = r.u64()?;
     r.expect(" ")?;
@@ -252,9 +250,7 @@ fn raw_group(r: &mut Reader) -> Read<Raw> {
 }
 
 fn place_entry(r: &mut Reader) -> Read<PlaceEntry> {
-    let id = r.id()?;
-    r.expect(" ref=")?;
-    let reference = r.u32()?;
+    let (id, reference) = named(r)?;
     r.expect(" prev_count=")?;
     let prev_count = r.u64()?;
     r.expect(" prev=")?;

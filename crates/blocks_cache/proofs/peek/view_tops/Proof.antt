@@ -6,7 +6,7 @@ use native.Mathlib.Omega.{arith}
 use borrow.Author.Tests.{not-false, not-true}
 use lib.ListN.{length}
 use Rattle.block_records.proofs.LoopLaws.{length-mapped}
-use Rattle.blocks_cache.proofs.PeekLaws.{Viewed, row-in-cache, view-more, view-over, view-passed, view-skip, view-start, view-stop}
+use Rattle.blocks_cache.proofs.PeekLaws.{Viewed, view-more, view-over, view-passed, view-skip, view-start, view-stop}
 use borrow.Author.Needs.{needs}
 use Rattle.blocks_cache.proofs.peek.view_tops.Statement.{statement}
 use Rattle.blocks_cache.proofs.peek.view_tops.Tie as tie
@@ -67,7 +67,7 @@ returns-2 c =
     let s = h .before .before .before .before in
     let n = long s in
     let l = c .before .before .before .before .before .before .before .before .loop-test .taken in
-    view-stop (s .args .seqno) (s .args .cache) (s .args .tops .items) (s .args .tops .count) (h .loop .i) (h .loop .count) (h .loop .rows) (h .loop .inv .1) _ (omega arith) (c .before .before .before .before .before .before .before .if1 .left) (sym (c .before .before .before .before .before .is-starting .ensures) ∙ not-false (c .before .before .before .before .before .is-starting .result) (c .before .before .before .before .if2 .left)) _ (row-in-cache (s .args .seqno) (s .args .cache) _ _ (c .before .before .before .top-row .ensures)) (not-true _ (c .before .if3 .taken)) _ (c .key .ensures)
+    view-stop (s .args .seqno) (s .args .cache) (s .args .tops .items) (s .args .tops .count) (h .loop .i) (h .loop .count) (h .loop .rows) (h .loop .inv .1) _ (omega arith) (c .before .before .before .before .before .before .before .if1 .left) (sym (c .before .before .before .before .before .is-starting .ensures) ∙ not-false (c .before .before .before .before .before .is-starting .result) (c .before .before .before .before .if2 .left)) _ (c .before .before .before .top-row .ensures) (not-true _ (c .before .if3 .taken)) _ (c .key .ensures)
 
 mul-rows : tie.Need-mul-rows Inv-loop μ-loop
 mul-rows c = let f = c .before .before .before .before .before .before .before .before .before .loop .inv .1 .few in let l = c .before .before .before .before .before .before .before .before .loop-test .taken in omega arith
@@ -90,7 +90,7 @@ loop-again-2 c =
     let s = h .before .before .before .before in
     let n = long s in
     let l = c .before .before .before .before .before .before .before .before .loop-test .taken in
-    (search needs, view-more (s .args .seqno) (s .args .cache) (s .args .tops .items) (s .args .tops .count) (h .loop .i) (h .loop .count) (h .loop .rows) (h .loop .inv .1) _ (omega arith) (c .before .before .before .before .before .before .before .if1 .left) (sym (c .before .before .before .before .before .is-starting .ensures) ∙ not-false (c .before .before .before .before .before .is-starting .result) (c .before .before .before .before .if2 .left)) _ (row-in-cache (s .args .seqno) (s .args .cache) _ _ (c .before .before .before .top-row .ensures)) (not-false _ (c .before .if3 .left)) l)
+    (search needs, view-more (s .args .seqno) (s .args .cache) (s .args .tops .items) (s .args .tops .count) (h .loop .i) (h .loop .count) (h .loop .rows) (h .loop .inv .1) _ (omega arith) (c .before .before .before .before .before .before .before .if1 .left) (sym (c .before .before .before .before .before .is-starting .ensures) ∙ not-false (c .before .before .before .before .before .is-starting .result) (c .before .before .before .before .if2 .left)) _ (c .before .before .before .top-row .ensures) (not-false _ (c .before .if3 .left)) l)
 
 returns-3 : tie.Need-returns-3 Inv-loop μ-loop
 returns-3 c =

@@ -7,7 +7,7 @@ use borrow.Author.Needs.{needs}
 use lib.ListN.{length}
 use Rattle.block_records.proofs.LoopLaws.{length-mapped}
 use Rattle.block_records.specs.Zeros.{zero-id}
-use Rattle.blocks_cache.proofs.TailWalkLaws.{QueueTaken, queue-end, queue-next, queue-start, step-in-cache, waits-few}
+use Rattle.blocks_cache.proofs.TailWalkLaws.{QueueTaken, queue-end, queue-next, queue-start, waits-few}
 use Rattle.blocks_cache.proofs.tail_ids.take_queued.Statement.{statement}
 use Rattle.blocks_cache.proofs.tail_ids.take_queued.Tie as tie
 
@@ -63,7 +63,7 @@ add-count : tie.Need-add-count Inv-loop μ-loop
 add-count c =
     let h = c .before .before .before .before .before .before .before in
     let s = c .before .before .before .before .before .before .before .before .before .before .before in
-    let next = queue-next (s .args .cache) (s .args .mc-seqno) (s .args .walk) (h .loop .j) (h .loop .tails) (h .loop .ids) (h .loop .count) (h .loop .inv) _ (c .before .before .before .before .before .before .loop-test .taken) _ (step-in-cache (s .args .cache) _ _ _ _ (c .before .before .before .before .step-of .ensures)) _ (c .before .before .before .hold-given .ensures) _ (c .before .before .fresh-ids .ensures) (two c) zero-id zero-id in
+    let next = queue-next (s .args .cache) (s .args .mc-seqno) (s .args .walk) (h .loop .j) (h .loop .tails) (h .loop .ids) (h .loop .count) (h .loop .inv) _ (c .before .before .before .before .before .before .loop-test .taken) _ (c .before .before .before .before .step-of .ensures) _ (c .before .before .before .hold-given .ensures) _ (c .before .before .fresh-ids .ensures) (two c) zero-id zero-id in
     let f = waits-few (next .waits) in
     omega arith
 
@@ -81,7 +81,7 @@ loop-again : tie.Need-loop-again Inv-loop μ-loop
 loop-again c =
     let h = c .before .before .before .before .before .before .before in
     let s = c .before .before .before .before .before .before .before .before .before .before .before in
-    let next = queue-next (s .args .cache) (s .args .mc-seqno) (s .args .walk) (h .loop .j) (h .loop .tails) (h .loop .ids) (h .loop .count) (h .loop .inv) _ (c .before .before .before .before .before .before .loop-test .taken) _ (step-in-cache (s .args .cache) _ _ _ _ (c .before .before .before .before .step-of .ensures)) _ (c .before .before .before .hold-given .ensures) _ (c .before .before .fresh-ids .ensures) (two c) _ _ in
+    let next = queue-next (s .args .cache) (s .args .mc-seqno) (s .args .walk) (h .loop .j) (h .loop .tails) (h .loop .ids) (h .loop .count) (h .loop .inv) _ (c .before .before .before .before .before .before .loop-test .taken) _ (c .before .before .before .before .step-of .ensures) _ (c .before .before .before .hold-given .ensures) _ (c .before .before .fresh-ids .ensures) (two c) _ _ in
     next
 
 returns : tie.Need-returns Inv-loop μ-loop

@@ -13,7 +13,7 @@ use Rattle.blocks_cache.specs.Extraction.{top-id}
 use Rattle.blocks_cache.specs.TailArrays.{pack-walk, take-tail-id}
 use lib.ListN.{length}
 use Rattle.block_records.proofs.LoopLaws.{length-mapped}
-use Rattle.blocks_cache.proofs.TailWalkLaws.{TopsTaken, step-in-cache, tops-next, tops-over, tops-passed, tops-start, waits-few}
+use Rattle.blocks_cache.proofs.TailWalkLaws.{TopsTaken, tops-next, tops-over, tops-passed, tops-start, waits-few}
 use Rattle.blocks_cache.proofs.tail_ids.take_tops.Statement.{statement}
 use Rattle.blocks_cache.proofs.tail_ids.take_tops.Tie as tie
 
@@ -87,7 +87,7 @@ add-count c =
     let s = c .before .before .before .before .before .before .before .before .before .before .before .before .before in
     let n = long s in
     let l = c .before .before .before .before .before .before .before .loop-test .taken in
-    let next = tops-next (s .args .cache) (s .args .mc-seqno) (s .args .tops .items) (s .args .tops .count) _ (h .loop .i) (h .loop .tails) (h .loop .ids) (h .loop .count) (h .loop .inv .1) _ (omega arith) (c .before .before .before .before .before .before .if1 .left) _ (step-in-cache (s .args .cache) _ _ _ _ (c .before .before .before .before .step-of .ensures)) _ (c .before .before .before .hold-given .ensures) _ (c .before .before .fresh-ids .ensures) (two c) zero-id zero-id in
+    let next = tops-next (s .args .cache) (s .args .mc-seqno) (s .args .tops .items) (s .args .tops .count) _ (h .loop .i) (h .loop .tails) (h .loop .ids) (h .loop .count) (h .loop .inv .1) _ (omega arith) (c .before .before .before .before .before .before .if1 .left) _ (c .before .before .before .before .step-of .ensures) _ (c .before .before .before .hold-given .ensures) _ (c .before .before .fresh-ids .ensures) (two c) zero-id zero-id in
     let f = waits-few (next .waits) in
     omega arith
 
@@ -103,7 +103,7 @@ loop-again c =
     let s = c .before .before .before .before .before .before .before .before .before .before .before .before .before in
     let n = long s in
     let l = c .before .before .before .before .before .before .before .loop-test .taken in
-    (omega arith, tops-next (s .args .cache) (s .args .mc-seqno) (s .args .tops .items) (s .args .tops .count) _ (h .loop .i) (h .loop .tails) (h .loop .ids) (h .loop .count) (h .loop .inv .1) _ (omega arith) (c .before .before .before .before .before .before .if1 .left) _ (step-in-cache (s .args .cache) _ _ _ _ (c .before .before .before .before .step-of .ensures)) _ (c .before .before .before .hold-given .ensures) _ (c .before .before .fresh-ids .ensures) (two c) _ _)
+    (omega arith, tops-next (s .args .cache) (s .args .mc-seqno) (s .args .tops .items) (s .args .tops .count) _ (h .loop .i) (h .loop .tails) (h .loop .ids) (h .loop .count) (h .loop .inv .1) _ (omega arith) (c .before .before .before .before .before .before .if1 .left) _ (c .before .before .before .before .step-of .ensures) _ (c .before .before .before .hold-given .ensures) _ (c .before .before .fresh-ids .ensures) (two c) _ _)
 
 returns-2 : tie.Need-returns-2 Inv-loop μ-loop
 returns-2 c =
