@@ -27,6 +27,7 @@ use Rattle.blocks_group.specs.declared.store.StoreAnswer.the-variants.{Refused 
 use Rattle.block_records.specs.BlockIds.{id-shard, is-masterchain, same-id}
 use Rattle.block_records.specs.Lists.{pick}
 use Rattle.blocks_cache.specs.CacheLayout.{HeldOutcome, pack-range, view-range, zero-shard-group}
+use Rattle.blocks_cache.specs.CacheParts.{with-master-data, with-master-group}
 use Rattle.blocks_cache.specs.Calls.{Answer, refused, stored, synced}
 use Rattle.blocks_cache.specs.MasterDataArrays.{drop-ids-from, has-place-for-id, highest-id, pack-last, put-id, view-last}
 use Rattle.blocks_cache.specs.Model.{moved-end, moved-start}
@@ -78,14 +79,7 @@ zeroed-store r =
 
 -- the master group and master data put in
 abbrev pub with-masters-and-data : MasterGroup → MasterData → Cache → Cache
-with-masters-and-data g d c =
-    record {
-      «zerostate_mc_seqno» = c .«zerostate_mc_seqno»;
-      masters = g;
-      «data» = d;
-      shards = c .shards;
-      «shard_count» = c .«shard_count»;
-    }
+with-masters-and-data g d c = with-master-data d (with-master-group g c)
 
 -- the group of a shard put in, and master data
 abbrev pub with-shard-group : ShardGroup → MasterData → Cache → Cache
