@@ -305,11 +305,11 @@ module _ {A : Type 0} where
 -- ===== `each` of a list so changed =====
 
 module _ {A B : Type 0} (f : A → B) where
-  each-append : (xs ys : List A) → each f (xs ++ ys) ≡ each f xs ++ each f ys
+  pub each-append : (xs ys : List A) → each f (xs ++ ys) ≡ each f xs ++ each f ys
   each-append [] ys = refl
   each-append (x ∷ xs) ys = ap (λ (r : List B). f x ∷ r) (each-append xs ys)
 
-  each-take : (n : ℕ) (xs : List A) → each f (take n xs) ≡ take n (each f xs)
+  pub each-take : (n : ℕ) (xs : List A) → each f (take n xs) ≡ take n (each f xs)
   each-take zero xs = refl
   each-take (suc n) [] = refl
   each-take (suc n) (x ∷ xs) = ap (λ (r : List B). f x ∷ r) (each-take n xs)

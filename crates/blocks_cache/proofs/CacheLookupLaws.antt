@@ -30,7 +30,7 @@ use Rattle.blocks_cache.proofs.PlaceLaws.{at-place, at-within}
 use Rattle.blocks_cache.proofs.ShardArrayLaws.{find-shard-packed, shard-listed, shard-place-packed}
 use Rattle.blocks_cache.proofs.SoundLaws.{parts, shard-parts}
 use Rattle.blocks_cache.specs.CacheLayout.{pack, pack-shard, zero-shard-group}
-use Rattle.blocks_cache.specs.Lookups.{entry-in, entry-in-groups, entry-under}
+use Rattle.blocks_cache.specs.Lookups.{entry-in, entry-under}
 use Rattle.blocks_cache.specs.Model.{Model, ShardModel, find-shard, is-shard, lookup}
 use Rattle.blocks_cache.specs.Refusals.{shard-sound, sound}
 use Rattle.blocks_cache.specs.ShardArrays.{shard-place}
@@ -86,7 +86,7 @@ module _ (k : BlockIdShort) (m : Model) (ok : sound m ≡ true) where
       ∙ ap (Option·map pack-entry) (sym (lookup-found k (m .shards)))
 
   pub entry-under-packed : answered-entry (entry-under k (pack m)) ≡ Option·map pack-entry (lookup (m .shards) k)
-  unfolding entry-under entry-in-groups
+  unfolding entry-under
   entry-under-packed = found-at-place placed refl
 
 -- ===== the steps of the code =====
@@ -98,17 +98,20 @@ group-place-listed s n gs long k e = shard-listed gs long n (record { shard = s;
 pub shard-place-listed : (s : ShardIdent) (c : Cache) → length (c .shards) ≡ 8 → (k : ℕ) → shard-place s (c .«shard_count») (c .shards) ≡ place-at k → k < 8
 shard-place-listed s c long k e = group-place-listed s (c .«shard_count») (c .shards) long k e
 
-module _ (k : BlockIdShort) (n : ℕ) (gs : List ShardGroup) (long : length gs ≡ 8) (s : ShardIdent) (of-key : s ≡ key-shard k) (i : ℕ) where
-  pub under-unknown : shard-place s n gs ≡ place-vacant i → (z : BlockCacheEntry) → z ≡ zero-entry → record { found = vacant-at 0; entry = z } ≡ entry-in-groups k n gs
-  unfolding entry-in-groups
+module _ (k : BlockIdShort) (c : Cache) (long : length (c .shards) ≡ 8) (s : ShardIdent) (of-key : s ≡ key-shard k) (i : ℕ) where
+  abbrev place-of-shard : ShardIdent → Place
+  place-of-shard x = shard-place x (c .«shard_count») (c .shards)
+
+  pub under-unknown : shard-place s (c .«shard_count») (c .shards) ≡ place-vacant i → (z : BlockCacheEntry) → z ≡ zero-entry → record { found = vacant-at 0; entry = z } ≡ entry-under k c
+  unfolding entry-under
   under-unknown e z q =
       ap (λ (x : BlockCacheEntry). record { found = vacant-at 0; entry = x }) q
-      ∙ ap (λ (p : Place). entry-in (k .seqno) p gs) (sym e) ∙ ap (λ (x : ShardIdent). entry-in (k .seqno) (shard-place x n gs) gs) of-key
+      ∙ ap (λ (p : Place). entry-in (k .seqno) p (c .shards)) (sym e) ∙ ap (λ (x : ShardIdent). entry-in (k .seqno) (place-of-shard x) (c .shards)) of-key
 
   -- d is any group
-  pub under-known : shard-place s n gs ≡ place-at i → (d : ShardGroup) (a : EntryAt) → a ≡ entry-at (k .seqno) (getD gs i d .group) → a ≡ entry-in-groups k n gs
-  unfolding entry-in-groups
+  pub under-known : shard-place s (c .«shard_count») (c .shards) ≡ place-at i → (d : ShardGroup) (a : EntryAt) → a ≡ entry-at (k .seqno) (getD (c .shards) i d .group) → a ≡ entry-under k c
+  unfolding entry-under
   under-known e d a q =
-      let l = group-place-listed s n gs long i e in
-      q ∙ ap (λ (x : ShardGroup). entry-at (k .seqno) (x .group)) (getD-any gs i d zero-shard-group (omega (arith, long)))
-      ∙ ap (λ (p : Place). entry-in (k .seqno) p gs) (sym e) ∙ ap (λ (x : ShardIdent). entry-in (k .seqno) (shard-place x n gs) gs) of-key
+      let l = group-place-listed s (c .«shard_count») (c .shards) long i e in
+      q ∙ ap (λ (x : ShardGroup). entry-at (k .seqno) (x .group)) (getD-any (c .shards) i d zero-shard-group (omega (arith, long)))
+      ∙ ap (λ (p : Place). entry-in (k .seqno) p (c .shards)) (sym e) ∙ ap (λ (x : ShardIdent). entry-in (k .seqno) (place-of-shard x) (c .shards)) of-key

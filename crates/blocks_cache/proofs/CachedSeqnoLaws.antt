@@ -15,8 +15,8 @@ use Rattle.block_records.specs.declared.block_id.BlockId.{BlockId}
 use Rattle.block_records.specs.declared.block_id.ShardIdent.{ShardIdent}
 use Rattle.block_records.specs.declared.entry.BlockCacheEntry.{BlockCacheEntry}
 use Rattle.blocks_cache.specs.declared.cache.ShardGroup.{ShardGroup}
-use Rattle.blocks_cache.specs.declared.extraction.EntrySeqno.{EntrySeqno}
-use Rattle.blocks_cache.specs.declared.extraction.GroupSeqnos.{GroupSeqnos}
+use Rattle.blocks_cache.specs.declared.lookup.EntrySeqno.{EntrySeqno}
+use Rattle.blocks_cache.specs.declared.lookup.GroupSeqnos.{GroupSeqnos}
 use Rattle.blocks_group.specs.declared.group.Boundary.the-variants.{Absent as no-boundary}
 use Rattle.blocks_group.specs.declared.mark.Mark.{Mark}
 use Rattle.blocks_group.specs.declared.mark.Mark.the-variants.{Absent as no-mark, At as mark-at}
@@ -31,8 +31,10 @@ use Rattle.block_records.specs.Lists.{all, each, padded, rising}
 use Rattle.block_records.specs.Zeros.{zero-entry, zero-shard}
 use Rattle.blocks_cache.proofs.ExtractionArrayLaws.{FirstAt, NonePasses}
 use Rattle.blocks_cache.specs.CacheLayout.{pack-shard, zero-shard-group}
-use Rattle.blocks_cache.specs.ExtractionArrays.{cached-at, compact-shard, compact-shards, group-seqnos, held-shard, is-ident, no-seqno-here, no-seqnos, seqno-gone, seqno-here, shard-seqnos, still-cached}
+use Rattle.blocks_cache.specs.ExtractionArrays.{compact-shard, compact-shards, seqno-gone, still-cached}
+use Rattle.blocks_cache.specs.Lookups.{cached-at, group-seqnos, no-seqno-here, no-seqnos, seqno-here, shard-seqnos}
 use Rattle.blocks_cache.specs.Model.{ShardModel, lookup, on-shard, shard-before}
+use Rattle.blocks_cache.specs.ShardArrays.{held-shard, ident-at}
 use Rattle.blocks_group.proofs.GroupArrayLaws.{listed-packed}
 use Rattle.blocks_group.proofs.GroupLayoutLaws.{view-pack-mark}
 use Rattle.blocks_group.specs.GroupLayout.{pack-boundary, pack-group, pack-mark, view-mark, zero-group}
@@ -134,7 +136,7 @@ module _ (n : ℕ) where
 
 module _ (i : BlockId) where
   abbrev own : ShardIdent → Bool
-  own = is-ident (id-shard i)
+  own = ident-at (id-shard i)
 
   same-here : (x : ShardIdent) (g : ShardModel) (b : Bool) → x ≡ g .shard → own x ≡ b → same-shard (g .shard) (id-shard i) ≡ b
   same-here x g b e f = sym (ap (λ (y : ShardIdent). same-shard y (id-shard i)) e) ∙ f

@@ -11,8 +11,8 @@ use lib.Seq.{drop-cons, getD-take, length-take-le, set-at, take-all}
 use Rattle.block_records.specs.declared.block_id.BlockId.{BlockId}
 use Rattle.block_records.specs.declared.block_id.ShardIdent.{ShardIdent}
 use Rattle.blocks_cache.specs.declared.cache.ShardGroup.{ShardGroup}
-use Rattle.blocks_cache.specs.declared.extraction.BlockPlace.the-variants.{Absent as block-absent, At as block-found}
-use Rattle.blocks_cache.specs.declared.extraction.GroupSeqnos.{GroupSeqnos}
+use Rattle.blocks_cache.specs.declared.lookup.BlockPlace.the-variants.{Absent as block-absent, At as block-found}
+use Rattle.blocks_cache.specs.declared.lookup.GroupSeqnos.{GroupSeqnos}
 use Rattle.blocks_group.specs.declared.search.Found.{Found}
 use Rattle.blocks_group.specs.declared.search.Found.the-variants.{At as found-at, Vacant as vacant-at}
 use Rattle.block_records.proofs.ArrayLaws.{getD-any, padded-full}
@@ -21,7 +21,9 @@ use Rattle.block_records.proofs.LoopLaws.{drop-next, left, left-start, padded-n
 use Rattle.block_records.proofs.Tests.{on}
 use Rattle.block_records.specs.BlockIds.{id-shard}
 use Rattle.block_records.specs.Lists.{each, padded}
-use Rattle.blocks_cache.specs.ExtractionArrays.{backwards, block-place, cached-at, compact-shard, compact-shards, is-ident, no-seqnos, place-in, place-of}
+use Rattle.blocks_cache.specs.ExtractionArrays.{backwards, compact-shard, compact-shards}
+use Rattle.blocks_cache.specs.Lookups.{block-place, cached-at, no-seqnos, place-in, place-of}
+use Rattle.blocks_cache.specs.ShardArrays.{ident-at}
 use Rattle.blocks_group.specs.GroupQueries.{first-place}
 
 -- ===== the whole array =====
@@ -79,18 +81,18 @@ module _ {A : Type 0} (p : A → Bool) where
 
 module _ (i : BlockId) (idents : List ShardIdent) (seqnos : List GroupSeqnos) (s : ShardIdent) (e : s ≡ id-shard i) where
   -- no group of the shard
-  pub no-shard-there : (k : ℕ) → first-place (is-ident s) 0 idents ≡ vacant-at k → block-absent ≡ block-place i idents seqnos
+  pub no-shard-there : (k : ℕ) → first-place (ident-at s) 0 idents ≡ vacant-at k → block-absent ≡ block-place i idents seqnos
   unfolding block-place
-  no-shard-there k f = sym (ap (place-of i seqnos) (ap (λ (t : ShardIdent). first-place (is-ident t) 0 idents) (sym e) ∙ f))
+  no-shard-there k f = sym (ap (place-of i seqnos) (ap (λ (t : ShardIdent). first-place (ident-at t) 0 idents) (sym e) ∙ f))
 
-  module _ (k : ℕ) (f : first-place (is-ident s) 0 idents ≡ found-at k) where
+  module _ (k : ℕ) (f : first-place (ident-at s) 0 idents ≡ found-at k) where
     pub shard-within : k < length idents
-    shard-within = first-within (is-ident s) idents k (first-at (is-ident s) idents k f)
+    shard-within = first-within (ident-at s) idents k (first-at (ident-at s) idents k f)
 
     in-its-group : (d : GroupSeqnos) → k < length seqnos → block-place i idents seqnos ≡ place-in k (first-place (cached-at (i .seqno)) 0 (getD seqnos k d .entries))
     unfolding block-place
     in-its-group d l =
-        ap (place-of i seqnos) (ap (λ (t : ShardIdent). first-place (is-ident t) 0 idents) (sym e) ∙ f)
+        ap (place-of i seqnos) (ap (λ (t : ShardIdent). first-place (ident-at t) 0 idents) (sym e) ∙ f)
         ∙ ap (λ (g : GroupSeqnos). place-in k (first-place (cached-at (i .seqno)) 0 (g .entries))) (getD-any seqnos k no-seqnos d l)
 
     -- no entry of the seqno in it, or one
@@ -103,10 +105,10 @@ module _ (i : BlockId) (idents : List ShardIdent) (seqnos : List GroupSeqnos) (s
 -- what a place says: the group of the shard, and the entry of the seqno in it
 module _ (i : BlockId) (idents : List ShardIdent) (seqnos : List GroupSeqnos) (k j : ℕ) where
   pub record Placed : Type 0 where
-    pub group : first-place (is-ident (id-shard i)) 0 idents ≡ found-at k
+    pub group : first-place (ident-at (id-shard i)) 0 idents ≡ found-at k
     pub entry : first-place (cached-at (i .seqno)) 0 (getD seqnos k no-seqnos .entries) ≡ found-at j
 
-  entry-placed : (n : ℕ) (o : Found) → first-place (is-ident (id-shard i)) 0 idents ≡ found-at n → first-place (cached-at (i .seqno)) 0 (getD seqnos n no-seqnos .entries) ≡ o →
+  entry-placed : (n : ℕ) (o : Found) → first-place (ident-at (id-shard i)) 0 idents ≡ found-at n → first-place (cached-at (i .seqno)) 0 (getD seqnos n no-seqnos .entries) ≡ o →
       place-in n o ≡ block-found k j → Placed
   entry-placed n (found-at m) f g e =
       let p : n ≡ k = cc in
@@ -114,13 +116,13 @@ module _ (i : BlockId) (idents : List ShardIdent) (seqnos : List GroupSeqnos) (k
       record { group = f ∙ ap found-at p; entry = subst (λ (x : ℕ). first-place (cached-at (i .seqno)) 0 (getD seqnos x no-seqnos .entries) ≡ found-at j) p (g ∙ ap found-at q) }
   entry-placed n (vacant-at m) f g e = let z : _≡_ {A = ℕ} 0 1 = cc in absurd (omega arith)
 
-  group-placed : (o : Found) → first-place (is-ident (id-shard i)) 0 idents ≡ o → place-of i seqnos o ≡ block-found k j → Placed
+  group-placed : (o : Found) → first-place (ident-at (id-shard i)) 0 idents ≡ o → place-of i seqnos o ≡ block-found k j → Placed
   group-placed (found-at n) f e = entry-placed n (first-place (cached-at (i .seqno)) 0 (getD seqnos n no-seqnos .entries)) f refl e
   group-placed (vacant-at n) f e = let z : _≡_ {A = ℕ} 0 1 = cc in absurd (omega arith)
 
   pub placed : block-place i idents seqnos ≡ block-found k j → Placed
   unfolding block-place
-  placed e = group-placed (first-place (is-ident (id-shard i)) 0 idents) refl e
+  placed e = group-placed (first-place (ident-at (id-shard i)) 0 idents) refl e
 
 -- ===== a loop that fills an array in place with the list t, at place i =====
 

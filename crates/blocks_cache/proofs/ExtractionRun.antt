@@ -2,15 +2,14 @@
 -- Assumes nothing.
 use mathlib.Core.Bool.{false, true}
 use mathlib.Core.List.{List, [], _++_, _∷_, append-assoc}
-use mathlib.Core.Logic.{_⊎_, inl, inr}
 use mathlib.Core.Option.{Option, none, some}
 use mathlib.Core.Path.{_∙_, _≡_, ap, refl, subst, subst₂, sym}
 use Prim.Native.Nat.{_*_, _+_, _-_, _<_, _≤_, suc, zero, ℕ}
 use native.Mathlib.Nat.{le-refl}
 use native.Mathlib.Omega.{arith}
-use borrow.Author.Tests.{eq-eqb, leb-true, ne-eqb}
+use borrow.Author.Tests.{eq-eqb, ne-eqb}
 use lib.Dec.{eqb}
-use lib.ListN.{List·getD-append, drop, drop-of-length-le, getD, length, length-append, length-replicate, length-set, replicate, set, take, take-append-drop}
+use lib.ListN.{drop, drop-of-length-le, getD, length, length-append, length-set, replicate, set, take, take-append-drop}
 use lib.Seq.{drop-append-le, getD-take, length-take-le, set-at, take-append-add}
 use Rattle.block_records.specs.declared.block_id.BlockId.{BlockId}
 use Rattle.block_records.specs.declared.block_id.ShardIdent.{ShardIdent}
@@ -18,14 +17,13 @@ use Rattle.block_records.specs.declared.entry.BlockCacheEntry.{BlockCacheEntry}
 use Rattle.block_records.specs.declared.entry.MasterBlock.{MasterBlock}
 use Rattle.blocks_cache.specs.declared.cache.Cache.{Cache}
 use Rattle.blocks_cache.specs.declared.cache.ShardGroup.{ShardGroup}
-use Rattle.blocks_cache.specs.declared.extraction.BlockPlace.the-variants.{Absent as block-absent, At as block-found}
-use Rattle.blocks_cache.specs.declared.extraction.EntrySeqno.{EntrySeqno}
 use Rattle.blocks_cache.specs.declared.extraction.Extraction.{Extraction}
-use Rattle.blocks_cache.specs.declared.extraction.GroupSeqnos.{GroupSeqnos}
 use Rattle.blocks_cache.specs.declared.extraction.WaitingList.{WaitingList}
-use Rattle.blocks_group.specs.declared.search.Found.{Found}
-use Rattle.blocks_group.specs.declared.search.Found.the-variants.{At as found-at, Vacant as vacant-at}
-use Rattle.block_records.proofs.ArrayLaws.{all-getD, getD-any, getD-each, length-padded, length-take-few, take-padded-at}
+use Rattle.blocks_cache.specs.declared.lookup.BlockPlace.the-variants.{Absent as block-absent, At as block-found}
+use Rattle.blocks_cache.specs.declared.lookup.EntrySeqno.{EntrySeqno}
+use Rattle.blocks_cache.specs.declared.lookup.GroupSeqnos.{GroupSeqnos}
+use Rattle.blocks_group.specs.declared.search.Found.the-variants.{At as found-at}
+use Rattle.block_records.proofs.ArrayLaws.{all-getD, getD-any, length-padded, length-take-few, take-padded-at}
 use Rattle.block_records.proofs.EntryLayoutLaws.{take-padded}
 use Rattle.block_records.proofs.ListLaws.{length-each, length-filter}
 use Rattle.block_records.proofs.LoopLaws.{drop-next, padded-nil, set-padded}
@@ -36,18 +34,19 @@ use Rattle.block_records.specs.EntryLayout.{pack-entry, view-shard-entry}
 use Rattle.block_records.specs.Lists.{each, padded}
 use Rattle.block_records.specs.Questions.{entry-fits}
 use Rattle.block_records.specs.Zeros.{zero-entry, zero-id}
-use Rattle.blocks_cache.proofs.CacheLayoutLaws.{sound-cache-packed}
-use Rattle.blocks_cache.proofs.CachedSeqnoLaws.{Indexed, Numbered, cached-leaves, cached-within, change-in, compact-shards-packed, first-indexed, first-now, found-cached, indexed-set, leaves-numbered, length-now, listed-or-empty, lookup-in, no-shard-cached, none-cached, none-in-empty, now-group, now-shards, numbered-in, on-shard-twice}
+use Rattle.blocks_cache.proofs.BlockPlaceLaws.{absent-looked-up, all-cached, at-entry, at-group, block-looked-up, block-read, eight-groups, entries-numbered, entry-here, entry-listed, few-groups, first-index, group-here, group-listed, group-sound, held-is, shards-ok}
+use Rattle.blocks_cache.proofs.CachedSeqnoLaws.{Indexed, Numbered, cached-leaves, change-in, compact-shards-packed, indexed-set, leaves-numbered, length-now, now-group, now-shards, on-shard-twice}
 use Rattle.blocks_cache.proofs.CountLaws.{blocks-cached, records, same-end, shards-blocks}
-use Rattle.blocks_cache.proofs.ExtractionArrayLaws.{FirstAt, Placed, backwards-twice, first-at, length-backwards, none-passes, placed}
+use Rattle.blocks_cache.proofs.ExtractionArrayLaws.{FirstAt, Placed, backwards-twice, length-backwards, placed}
 use Rattle.blocks_cache.proofs.ExtractionLaws.{ends}
-use Rattle.blocks_cache.proofs.ShardLaws.{ShardsOk}
-use Rattle.blocks_cache.proofs.SoundLaws.{parts, shard-parts}
+use Rattle.blocks_cache.proofs.SoundLaws.{shard-parts}
 use Rattle.blocks_cache.specs.CacheLayout.{pack-shard, sound-cache, view, view-shard, zero-shard-group}
 use Rattle.blocks_cache.specs.Extraction.{Walk, extraction-of, first-walk, previous-cached, previous-in, starting-ids, starting-items, starts, take-found, take-id, take-one, take-times, top-id}
-use Rattle.blocks_cache.specs.ExtractionArrays.{backwards, block-place, cached-at, compact-shards, held-shard, held-starting-ids, is-ident, no-seqnos, pack-extraction, place-in, place-of, refresh-seqnos, seqno-gone, shard-seqnos, still-cached, view-master, waiting-list, without-seqno}
+use Rattle.blocks_cache.specs.ExtractionArrays.{backwards, compact-shards, held-starting-ids, pack-extraction, refresh-seqnos, seqno-gone, still-cached, view-master, waiting-list, without-seqno}
+use Rattle.blocks_cache.specs.Lookups.{block-place, cached-at, no-seqnos, shard-seqnos}
 use Rattle.blocks_cache.specs.Model.{ShardModel, lookup, on-shard, refresh-shard, remove-block}
 use Rattle.blocks_cache.specs.Refusals.{shard-sound}
+use Rattle.blocks_cache.specs.ShardArrays.{held-shard, ident-at}
 use Rattle.blocks_cache.specs.TailIds.{waits}
 use Rattle.blocks_group.proofs.GroupLaws.{previous-two}
 use Rattle.blocks_group.proofs.GroupLayoutLaws.{view-pack-mark}
@@ -109,10 +108,6 @@ queued l n head ps d h k two =
     ∙ ap (drop head) (take-append-add p (x ∷ y ∷ drop (n + 2) l) (length ps) ∙ ap (λ (s : List BlockId). p ++ s) t)
     ∙ drop-append-le head p ps (omega arith)
 
-getD-padded : {A : Type 0} (n : ℕ) (z : A) (xs : List A) (i : ℕ) (d : A) → i < length xs → getD (padded n z xs) i d ≡ getD xs i d
-unfolding padded
-getD-padded n z xs i d h = List·getD-append xs (replicate (n - length xs) z) d i h
-
 module _ {A B : Type 0} (f : A → B) where
   each-snoc : (xs : List A) (x : A) → each f (xs ++ (x ∷ [])) ≡ each f xs ++ (f x ∷ [])
   each-snoc [] x = refl
@@ -156,12 +151,6 @@ module _ (c : Cache) (ok : sound-cache c ≡ true) (b : MasterBlock) (few : leng
   abbrev starting : List BlockId
   starting = starting-ids (c .«zerostate_mc_seqno») (view-master b)
 
-  shards-ok : ShardsOk gs
-  shards-ok = parts (view c) (sound-cache-packed c ok .1) .rest .shards
-
-  few-groups : length gs ≤ 8
-  few-groups = leb-true (length gs) 8 (shards-ok .count)
-
   few-starting : length starting ≤ 8
   few-starting =
       omega (
@@ -172,28 +161,16 @@ module _ (c : Cache) (ok : sound-cache c ≡ true) (b : MasterBlock) (few : leng
         length-take-few (b .tops .count) (b .tops .items),
       )
 
-  abbrev spare : ℕ
-  spare = 8 - length (each pack-shard gs)
-
-  -- the groups as they are held
-  held-is : c .shards ≡ each pack-shard gs ++ replicate spare zero-shard-group
-  unfolding padded
-  held-is = ap (λ (x : Cache). x .shards) (sound-cache-packed c ok .0)
-
   pub run-starts : (idents : List ShardIdent) (seqnos : List GroupSeqnos) (list : WaitingList) (z : BlockCacheEntry) → idents ≡ each held-shard (c .shards) → seqnos ≡ each shard-seqnos (c .shards) →
       list ≡ waiting-list (held-starting-ids (c .«zerostate_mc_seqno») (b .tops)) → z ≡ zero-entry → Run c b idents seqnos (list .ids) (list .count) (replicate 128 z) 0 0
   run-starts idents seqnos list z i s l e =
-      let i′ : idents ≡ each held-shard (each pack-shard gs ++ replicate spare zero-shard-group) = i ∙ ap (each held-shard) held-is in
-      let s′ : seqnos ≡ each shard-seqnos (each pack-shard gs ++ replicate spare zero-shard-group) = s ∙ ap (each shard-seqnos) held-is in
-      let n = length-append (each pack-shard gs) (replicate spare zero-shard-group) in
-      let k = length-each pack-shard gs in
       record {
         walk = first-of c b;
         turns = refl;
         taken = refl;
-        index = subst₂ (λ (x : List ShardIdent) (y : List GroupSeqnos). Indexed x y gs) (sym i′) (sym s′) (first-indexed spare gs);
-        now = sym (ap (λ (x : List GroupSeqnos). now-shards x gs) s′ ∙ first-now (replicate spare zero-shard-group) gs);
-        groups = ap length s′ ∙ length-each shard-seqnos (each pack-shard gs ++ replicate spare zero-shard-group) ∙ omega (arith, n, k, few-groups, length-replicate spare zero-shard-group);
+        index = subst₂ (λ (x : List ShardIdent) (y : List GroupSeqnos). Indexed x y gs) (sym i) (sym s) (first-index c ok);
+        now = sym (ap (λ (x : List GroupSeqnos). now-shards x gs) s ∙ all-cached c ok);
+        groups = ap length s ∙ eight-groups c ok;
         places = ap (λ (x : WaitingList). length (x .ids)) l ∙ length-padded 264 zero-id starting (omega (arith, few-starting));
         passed = omega arith;
         waits = ap (λ (x : WaitingList). take (x .count) (x .ids)) l ∙ take-padded 264 zero-id starting;
@@ -206,7 +183,7 @@ module _ (c : Cache) (ok : sound-cache c ≡ true) (b : MasterBlock) (few : leng
   -- ===== the bounds =====
 
   few-blocks : blocks-cached gs ≤ 128
-  few-blocks = omega (arith, shards-blocks gs (shards-ok .each-ok), few-groups)
+  few-blocks = omega (arith, shards-blocks gs (shards-ok c ok .each-ok), few-groups c ok)
 
   module _ (idents : List ShardIdent) (seqnos : List GroupSeqnos) (ids : List BlockId) (count : ℕ) (blocks : List BlockCacheEntry) (joined head : ℕ)
       (r : Run c b idents seqnos ids count blocks joined head) where
@@ -261,101 +238,47 @@ module _ (c : Cache) (ok : sound-cache c ≡ true) (b : MasterBlock) (few : leng
       shards-now : (gs′ : List ShardModel) → w .shards ≡ gs′ → lookup (w .shards) (key id) ≡ lookup gs′ (key id)
       shards-now gs′ e = ap (λ (x : List ShardModel). lookup x (key id)) e
 
-      abbrev found-here : Found
-      found-here = first-place (is-ident (id-shard id)) 0 idents
-
-      no-shard-turn : (k : ℕ) → found-here ≡ vacant-at k → Run c b idents seqnos ids count blocks joined (head + 1)
-      no-shard-turn k f =
-          none-turn (shards-now (now-shards seqnos gs) (r .now) ∙ no-shard-cached id idents seqnos gs (none-passes (is-ident (id-shard id)) idents k f) (r .index))
-
       -- the group of its shard has place k
-      module _ (k : ℕ) (f : found-here ≡ found-at k) where
+      module _ (k : ℕ) (f : first-place (ident-at (id-shard id)) 0 idents ≡ found-at k) where
         abbrev g : ShardModel
         g = getD gs k (view-shard zero-shard-group)
 
         abbrev s : GroupSeqnos
         s = getD seqnos k no-seqnos
 
-        here : FirstAt (is-ident (id-shard id)) idents k
-        here = first-at (is-ident (id-shard id)) idents k f
-
-        no-entry-turn : (j : ℕ) → first-place (cached-at (id .seqno)) 0 (s .entries) ≡ vacant-at j → Run c b idents seqnos ids count blocks joined (head + 1)
-        no-entry-turn j q = by (listed-or-empty id idents seqnos gs k no-seqnos here (r .index))
-          where
-            by : (k < length gs) ⊎ ((s ≡ no-seqnos) × (lookup (now-shards seqnos gs) (key id) ≡ none)) → Run c b idents seqnos ids count blocks joined (head + 1)
-            by (inl l) =
-                none-turn
-                (shards-now (now-shards seqnos gs) (r .now)
-                ∙ lookup-in id idents seqnos gs k no-seqnos (view-shard zero-shard-group) here (r .index) l
-                ∙ none-cached (id .seqno) (s .entries) (g .group .entries) (none-passes (cached-at (id .seqno)) (s .entries) j q)
-                (numbered-in id idents seqnos gs k no-seqnos (view-shard zero-shard-group) (r .index) l))
-            by (inr e) = none-turn (shards-now (now-shards seqnos gs) (r .now) ∙ e .1)
-
-        in-group-turn : (o : Found) → first-place (cached-at (id .seqno)) 0 (s .entries) ≡ o → place-in k o ≡ block-absent → Run c b idents seqnos ids count blocks joined (head + 1)
-        in-group-turn (found-at j) q e = let z : _≡_ {A = ℕ} 0 1 = cc in absurd (omega arith)
-        in-group-turn (vacant-at j) q e = no-entry-turn j q
-
         -- .. and its entry place j in it
         module _ (j : ℕ) (q : first-place (cached-at (id .seqno)) 0 (s .entries) ≡ found-at j) where
           there : FirstAt (cached-at (id .seqno)) (s .entries) j
-          there = first-at (cached-at (id .seqno)) (s .entries) j q
+          there = entry-here c ok id idents seqnos (r .index) k f j q
 
           listed : k < length gs
-          listed = by (listed-or-empty id idents seqnos gs k no-seqnos here (r .index))
-            where
-              by : (k < length gs) ⊎ ((s ≡ no-seqnos) × (lookup (now-shards seqnos gs) (key id) ≡ none)) → k < length gs
-              by (inl l) = l
-              by (inr e) = absurd (none-in-empty (id .seqno) j (subst (λ (x : GroupSeqnos). FirstAt (cached-at (id .seqno)) (x .entries) j) (e .0) there))
+          listed = group-listed c ok id idents seqnos (r .index) k f j q
 
           abbrev es : List Entry
           es = g .group .entries
 
           numbered : Numbered (s .entries) es
-          numbered = numbered-in id idents seqnos gs k no-seqnos (view-shard zero-shard-group) (r .index) listed
-
-          within : j < length es
-          within = cached-within (id .seqno) (s .entries) es j there numbered
+          numbered = entries-numbered c ok id idents seqnos (r .index) k f j q
 
           abbrev block-here : Entry
           block-here = getD es j (view-shard-entry zero-entry)
 
           found : lookup (w .shards) (key id) ≡ some block-here
-          found =
-              shards-now (now-shards seqnos gs) (r .now)
-              ∙ lookup-in id idents seqnos gs k no-seqnos (view-shard zero-shard-group) here (r .index) listed
-              ∙ found-cached (id .seqno) (s .entries) es j (view-shard-entry zero-entry) there numbered
+          found = shards-now (now-shards seqnos gs) (r .now) ∙ block-looked-up c ok id idents seqnos (r .index) k f j q
 
           group-ok : shard-sound g ≡ true
-          group-ok = all-getD shard-sound gs k (view-shard zero-shard-group) (shards-ok .each-ok) listed
+          group-ok = group-sound c ok id idents seqnos (r .index) k f j q
 
           fits : fits-in (of-shard (g .shard)) block-here ≡ true
-          fits = all-getD (fits-in (of-shard (g .shard))) es j (view-shard-entry zero-entry) (shard-parts g group-ok .fit) within
+          fits = all-getD (fits-in (of-shard (g .shard))) es j (view-shard-entry zero-entry) (shard-parts g group-ok .fit) (entry-listed c ok id idents seqnos (r .index) k f j q)
 
           two : length (block-here .previous) ≤ 2
           two = previous-two block-here (and-right (of-shard (g .shard) (id-shard (block-here .id))) (entry-fits block-here) fits)
 
-          at-group : k < 8
-          at-group = omega (arith, listed, few-groups)
-
-          at-entry : j < 16
-          at-entry = omega (arith, within, leb-true (length es) 16 (shard-parts g group-ok .count))
-
-          -- the block that the code reads
-          block-is : (y : ShardGroup) (x : BlockCacheEntry) → getD (getD (c .shards) k y .group .entries) j x ≡ pack-entry block-here
-          unfolding padded
-          block-is y x =
-              let a : k < length (each pack-shard gs) = omega (arith, length-each pack-shard gs, listed) in
-              let p : getD (c .shards) k y ≡ pack-shard g =
-              ap (λ (l : List ShardGroup). getD l k y) held-is ∙ List·getD-append (each pack-shard gs) (replicate spare zero-shard-group) y k a
-              ∙ getD-any (each pack-shard gs) k y (pack-shard (view-shard zero-shard-group)) a ∙ getD-each pack-shard gs k (view-shard zero-shard-group) in
-              let n : j < length (each pack-entry es) = omega (arith, length-each pack-entry es, within) in
-              ap (λ (z : ShardGroup). getD (z .group .entries) j x) p ∙ getD-padded 16 zero-entry (each pack-entry es) j x n
-              ∙ getD-any (each pack-entry es) j x (pack-entry (view-shard-entry zero-entry)) n ∙ getD-each pack-entry es j (view-shard-entry zero-entry)
-
-          gone-now : (f : GroupModel → GroupModel) (s′ : GroupSeqnos) → now-group s′ (g .group) ≡ f (now-group s (g .group)) → on-shard (id-shard id) f (w .shards) ≡ now-shards (set seqnos k s′) gs
-          gone-now f s′ v =
-              ap (on-shard (id-shard id) f) (r .now)
-              ∙ change-in id f s′ idents seqnos gs k no-seqnos (view-shard zero-shard-group) here (r .index) (shards-ok .order) listed v
+          gone-now : (h : GroupModel → GroupModel) (s′ : GroupSeqnos) → now-group s′ (g .group) ≡ h (now-group s (g .group)) → on-shard (id-shard id) h (w .shards) ≡ now-shards (set seqnos k s′) gs
+          gone-now h s′ v =
+              ap (on-shard (id-shard id) h) (r .now)
+              ∙ change-in id h s′ idents seqnos gs k no-seqnos (view-shard zero-shard-group) (group-here c ok id idents seqnos (r .index) k f) (r .index) (shards-ok c ok .order) listed v
 
           index-now : (s′ : GroupSeqnos) → s′ .entries ≡ set (s .entries) j (seqno-gone (id .seqno)) → Indexed idents (set seqnos k s′) gs
           index-now s′ v =
@@ -444,14 +367,9 @@ module _ (c : Cache) (ok : sound-cache c ≡ true) (b : MasterBlock) (few : leng
                   joins = omega (arith, r .joins);
                 })
 
-      in-cache-turn : (o : Found) → found-here ≡ o → place-of id seqnos o ≡ block-absent → Run c b idents seqnos ids count blocks joined (head + 1)
-      in-cache-turn (found-at k) f e = in-group-turn k f (first-place (cached-at (id .seqno)) 0 (getD seqnos k no-seqnos .entries)) refl e
-      in-cache-turn (vacant-at k) f e = no-shard-turn k f
-
       -- the lookup finds nothing
       pub absent-turn : block-place id idents seqnos ≡ block-absent → Run c b idents seqnos ids count blocks joined (head + 1)
-      unfolding block-place
-      absent-turn e = in-cache-turn found-here refl e
+      absent-turn e = none-turn (shards-now (now-shards seqnos gs) (r .now) ∙ absent-looked-up c ok id idents seqnos (r .index) e)
 
       -- ===== the lookup finds a block; y, x and u are what the arrays would give past their ends =====
 
@@ -460,10 +378,10 @@ module _ (c : Cache) (ok : sound-cache c ≡ true) (b : MasterBlock) (few : leng
         q = placed id idents seqnos k j p
 
         pub group-within : k < 8
-        group-within = at-group k (q .group) j (q .entry)
+        group-within = at-group c ok id idents seqnos (r .index) k (q .group) j (q .entry)
 
         pub entry-within : j < 16
-        entry-within = at-entry k (q .group) j (q .entry)
+        entry-within = at-entry c ok id idents seqnos (r .index) k (q .group) j (q .entry)
 
         abbrev read : ShardGroup → BlockCacheEntry → BlockCacheEntry
         read y x = getD (getD (c .shards) k y .group .entries) j x
@@ -472,7 +390,7 @@ module _ (c : Cache) (ok : sound-cache c ≡ true) (b : MasterBlock) (few : leng
         old-is u = getD-any seqnos k u no-seqnos (omega (arith, group-within, r .groups))
 
         same-reference : (y : ShardGroup) (x : BlockCacheEntry) → read y x .«ref_by_mc_seqno» ≡ block-here k (q .group) j (q .entry) .reference
-        same-reference y x = ap (λ (n : BlockCacheEntry). n .«ref_by_mc_seqno») (block-is k (q .group) j (q .entry) y x)
+        same-reference y x = ap (λ (n : BlockCacheEntry). n .«ref_by_mc_seqno») (block-read c ok id idents seqnos (r .index) k (q .group) j (q .entry) y x)
 
         pub read-foreign : (y : ShardGroup) (x : BlockCacheEntry) (u : GroupSeqnos) → (read y x .«ref_by_mc_seqno» ≡ mc-seqno → ⊥) → (s′ : GroupSeqnos) → s′ ≡ without-seqno j (id .seqno) (getD seqnos k u) →
             Run c b idents (set seqnos k s′) ids count blocks joined (head + 1)
@@ -490,13 +408,13 @@ module _ (c : Cache) (ok : sound-cache c ≡ true) (b : MasterBlock) (few : leng
           room-for-ids = at-ids k (q .group) j (q .entry) names
 
           pub few-previous : read y x .«prev_ids» .count ≤ 2
-          few-previous = omega (arith, two k (q .group) j (q .entry), ap (λ (n : BlockCacheEntry). n .«prev_ids» .count) (block-is k (q .group) j (q .entry) y x))
+          few-previous = omega (arith, two k (q .group) j (q .entry), ap (λ (n : BlockCacheEntry). n .«prev_ids» .count) (block-read c ok id idents seqnos (r .index) k (q .group) j (q .entry) y x))
 
           pub read-joins : (u : GroupSeqnos) (s′ s″ : GroupSeqnos) → s′ ≡ without-seqno j (id .seqno) (getD seqnos k u) → s″ ≡ refresh-seqnos (id .seqno) s′ → (z : BlockId) →
               Run c b idents (set seqnos k s″) (set (set ids count (getD (read y x .«prev_ids» .ids) 0 z)) (count + 1) (getD (read y x .«prev_ids» .ids) 1 z)) (count + read y x .«prev_ids» .count)
               (set blocks joined (read y x)) (joined + 1) (head + 1)
           read-joins u s′ s″ n n′ z =
-              join-turn k (q .group) j (q .entry) names s′ s″ (n ∙ ap (without-seqno j (id .seqno)) (old-is u)) n′ (read y x) (block-is k (q .group) j (q .entry) y x) z
+              join-turn k (q .group) j (q .entry) names s′ s″ (n ∙ ap (without-seqno j (id .seqno)) (old-is u)) n′ (read y x) (block-read c ok id idents seqnos (r .index) k (q .group) j (q .entry) y x) z
 
     -- ===== the end =====
 
@@ -515,8 +433,8 @@ module _ (c : Cache) (ok : sound-cache c ≡ true) (b : MasterBlock) (few : leng
         let q : length (each pack-shard (now-shards seqnos gs)) ≡ length (each pack-shard gs) =
         length-each pack-shard (now-shards seqnos gs) ∙ length-now idents seqnos gs (r .index) ∙ sym (length-each pack-shard gs) in
         let p : left ≡ padded 8 zero-shard-group (each pack-shard (w .shards)) =
-        a ∙ ap (λ (x : List ShardGroup). compact-shards x seqnos) held-is
-        ∙ compact-shards-packed spare idents seqnos gs (r .index) (omega (arith, r .groups, few-groups, length-each pack-shard gs))
+        a ∙ ap (λ (x : List ShardGroup). compact-shards x seqnos) (held-is c ok)
+        ∙ compact-shards-packed (8 - length (each pack-shard gs)) idents seqnos gs (r .index) (omega (arith, r .groups, few-groups c ok, length-each pack-shard gs))
         ∙ ap (λ (x : ℕ). each pack-shard (now-shards seqnos gs) ++ replicate (8 - x) zero-shard-group) (sym q)
         ∙ ap (λ (x : List ShardModel). padded 8 zero-shard-group (each pack-shard x)) (sym (r .now)) in
         let l : length (each pack-entry (backwards js)) ≡ joined = length-each pack-entry (backwards js) ∙ length-backwards js ∙ sym (r .joins) in

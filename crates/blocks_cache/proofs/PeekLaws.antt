@@ -5,53 +5,57 @@ use mathlib.Core.List.{List, [], _++_, _∷_, append-assoc, append-nil}
 use mathlib.Core.Option.{Option, Option·map, none, some}
 use mathlib.Core.Path.{_∙_, _≡_, ap, ap₂, refl, sym}
 use Prim.Native.Nat.{_+_, _<_, _≤_, ℕ}
-use native.Mathlib.Nat.{le-refl}
 use native.Mathlib.Omega.{arith}
 use borrow.Author.Tests.{eq-eqb, ne-eqb}
 use lib.Dec.{eqb}
 use lib.ListN.{getD, length, length-append, replicate, set, take}
 use Rattle.block_records.specs.declared.block_id.BlockIdShort.{BlockIdShort}
+use Rattle.block_records.specs.declared.block_id.ShardIdent.{ShardIdent}
 use Rattle.block_records.specs.declared.entry.BlockCacheEntry.{BlockCacheEntry}
 use Rattle.block_records.specs.declared.entry.MasterBlock.{MasterBlock}
 use Rattle.block_records.specs.declared.top_block.TopBlock.{TopBlock}
+use Rattle.block_records.specs.declared.top_block.TopBlocks.{TopBlocks}
 use Rattle.blocks_cache.specs.declared.cache.Cache.{Cache}
 use Rattle.blocks_cache.specs.declared.cache.ShardGroup.{ShardGroup}
+use Rattle.blocks_cache.specs.declared.lookup.BlockPlace.the-variants.{Absent as block-absent, At as block-found}
+use Rattle.blocks_cache.specs.declared.lookup.GroupSeqnos.{GroupSeqnos}
 use Rattle.blocks_cache.specs.declared.peek.MissingTop.the-variants.{Absent as no-missing, At as missing-at}
 use Rattle.blocks_cache.specs.declared.peek.Peek.{Peek}
 use Rattle.blocks_cache.specs.declared.peek.PeekAnswer.{PeekAnswer}
 use Rattle.blocks_cache.specs.declared.peek.PeekAnswer.the-variants.{Found as peek-found, Nothing as peek-nothing, Refused as peek-refused}
 use Rattle.blocks_cache.specs.declared.peek.PeekRow.{PeekRow}
-use Rattle.blocks_cache.specs.declared.peek.SeenTop.{SeenTop}
 use Rattle.blocks_cache.specs.declared.peek.TopRows.{TopRows}
-use Rattle.blocks_group.specs.declared.group.EntryAt.{EntryAt}
 use Rattle.blocks_group.specs.declared.group.MasterAt.{MasterAt}
 use Rattle.blocks_group.specs.declared.search.Found.{Found}
 use Rattle.blocks_group.specs.declared.search.Found.the-variants.{At as found-at, Vacant as vacant-at}
+use Rattle.block_records.proofs.ArrayLaws.{each-append, length-take-few}
 use Rattle.block_records.proofs.EntryLayoutLaws.{view-pack-tops}
-use Rattle.block_records.proofs.ListLaws.{length-each}
-use Rattle.block_records.proofs.LoopLaws.{left, left-more, left-over, left-passed, left-start, padded-nil, set-padded}
-use Rattle.block_records.proofs.Tests.{clash, on}
+use Rattle.block_records.proofs.ListLaws.{length-each, length-filter}
+use Rattle.block_records.proofs.LoopLaws.{left, left-more, left-passed, left-start, padded-nil, set-padded}
+use Rattle.block_records.proofs.Tests.{on}
 use Rattle.block_records.specs.BlockIds.{key, listed-tops}
 use Rattle.block_records.specs.Entries.{Entry}
 use Rattle.block_records.specs.EntryLayout.{pack-entry, pack-master, pack-tops}
 use Rattle.block_records.specs.Lists.{each, filter, padded}
 use Rattle.block_records.specs.Questions.{ask, seqno-fits}
-use Rattle.blocks_cache.proofs.CacheLookupLaws.{entry-under-packed}
+use Rattle.blocks_cache.proofs.BlockPlaceLaws.{cached-at-place, cached-block-packed, not-cached}
 use Rattle.blocks_cache.proofs.CallLaws.{unsound-answers-1}
 use Rattle.blocks_cache.proofs.CallOnLaws.{first-part-refuses, on-sound, second-part-decides}
 use Rattle.blocks_cache.proofs.CountLaws.{places}
+use Rattle.blocks_cache.proofs.SoundLaws.{whole}
 use Rattle.blocks_cache.specs.CacheLayout.{call-on, pack, pack-outcome, sound-cache, view}
 use Rattle.blocks_cache.specs.Calls.{Row, View, peek, peeked, unlent}
 use Rattle.blocks_cache.specs.CaseCalls.{slice}
 use Rattle.blocks_cache.specs.Effects.{answered, effect, outcome-of, peek-entry}
 use Rattle.blocks_cache.specs.Extraction.{seen-top, starting-items, starts, view-tops}
-use Rattle.blocks_cache.specs.Lookups.{entry-in-groups, entry-under}
+use Rattle.blocks_cache.specs.Lookups.{block-place, shard-seqnos}
 use Rattle.blocks_cache.specs.Model.{Model, first-applied, lookup}
-use Rattle.blocks_cache.specs.Peeks.{found-peek, held-tops, naming-row, pack-missing, pack-row, pack-seen, pack-view, peek-block, peek-held, peek-outcome, peek-says, seen-held, top-row, top-row-in, view-missing, view-row, zero-peek, zero-row, zeroed-peek}
+use Rattle.blocks_cache.specs.Peeks.{found-peek, held-tops, naming-row, pack-missing, pack-row, pack-view, peek-block, peek-held, peek-outcome, peek-says, seen-held, top-row, view-missing, view-row, zero-peek, zero-row, zeroed-peek}
 use Rattle.blocks_cache.specs.Refusals.{further, sound}
+use Rattle.blocks_cache.specs.ShardArrays.{held-shard}
 use Rattle.blocks_group.proofs.GroupLayoutLaws.{take-padded-each}
 use Rattle.blocks_group.proofs.QueryLaws.{first-applied-packed}
-use Rattle.blocks_group.specs.GroupArrays.{answered-entry, answered-master, when-found}
+use Rattle.blocks_group.specs.GroupArrays.{answered-master, when-found}
 use Rattle.blocks_group.specs.GroupQueries.{first-applied-master}
 
 -- ===== on a packed cache =====
@@ -61,10 +65,10 @@ row-packed m t none rest = refl
 row-packed m t (some e) rest = on (eqb (e .reference) m) (λ u. rw u) (λ u. rw u)
 
 tops-packed : (n : ℕ) (m : Model) → sound m ≡ true → (ts : List TopBlock) → held-tops n (pack m) ts ≡ view-tops n (m .shards) ts
-unfolding top-row-in entry-under
+unfolding top-row
 tops-packed n m ok [] = refl
 tops-packed n m ok (t ∷ ts) =
-    ap₂ (λ (o : Option BlockCacheEntry) (v : View). seen-held t (naming-row n t o) v) (entry-under-packed (key (t .«block_id»)) m ok) (tops-packed n m ok ts)
+    ap₂ (λ (o : Option BlockCacheEntry) (v : View). seen-held t (naming-row n t o) v) (cached-block-packed m ok (t .«block_id»)) (tops-packed n m ok ts)
     ∙ row-packed n t (lookup (m .shards) (key (t .«block_id»))) (view-tops n (m .shards) ts)
 
 view-pack-rows : (rs : List Row) → each view-row (each pack-row rs) ≡ rs
@@ -151,123 +155,106 @@ module _ (c : Cache) (f : ℕ) (r : Peek) where
 
 -- ===== a top's row =====
 
-module _ (m n : ℕ) (gs : List ShardGroup) (t : TopBlock) (k : BlockIdShort) (of-item : k ≡ key (t .«block_id»)) (a : EntryAt) (looked : a ≡ entry-in-groups k n gs) where
-  row-is : (f : Found) → a .found ≡ f → naming-row m t (when-found f (a .entry)) ≡ top-row-in m n gs t
-  unfolding top-row-in
-  row-is f e =
-      ap (λ (x : Found). naming-row m t (when-found x (a .entry))) (sym e) ∙ ap (λ (x : EntryAt). naming-row m t (answered-entry x)) looked
-      ∙ ap (λ (x : BlockIdShort). naming-row m t (answered-entry (entry-in-groups x n gs))) of-item
+-- by the shards and seqnos that were gathered
+module _ (c : Cache) (ok : sound-cache c ≡ true) (m : ℕ) (t : TopBlock) (idents : List ShardIdent) (seqnos : List GroupSeqnos) (of-shards : idents ≡ each held-shard (c .shards))
+    (of-groups : seqnos ≡ each shard-seqnos (c .shards)) where
+  pub row-absent : block-place (t .«block_id») idents seqnos ≡ block-absent → top-row m c t ≡ none
+  unfolding top-row
+  row-absent e = ap (naming-row m t) (not-cached c ok (t .«block_id») idents seqnos of-shards of-groups e)
 
-  module _ (z : PeekRow) (zeros : z ≡ zero-row) where
-    pub row-vacant : (i : ℕ) → a .found ≡ vacant-at i → record { seen = false; row = z } ≡ pack-seen (top-row-in m n gs t)
-    row-vacant i e = ap (λ (x : PeekRow). record { seen = false; row = x }) zeros ∙ ap pack-seen (row-is (vacant-at i) e)
+  -- a block is found; y and x are what the arrays would give past their ends
+  module _ (k j : ℕ) (e : block-place (t .«block_id») idents seqnos ≡ block-found k j) (y : ShardGroup) (x : BlockCacheEntry) where
+    abbrev found-block : BlockCacheEntry
+    found-block = getD (getD (c .shards) k y .group .entries) j x
 
-    pub row-foreign : (i : ℕ) → a .found ≡ found-at i → (a .entry .«ref_by_mc_seqno» ≡ m → ⊥) → record { seen = false; row = z } ≡ pack-seen (top-row-in m n gs t)
-    row-foreign i e o =
-        let q : none ≡ naming-row m t (some (a .entry)) = rw (ne-eqb (a .entry .«ref_by_mc_seqno») m o) in
-        ap (λ (x : PeekRow). record { seen = false; row = x }) zeros ∙ ap pack-seen (q ∙ row-is (found-at i) e)
+    row-found : top-row m c t ≡ naming-row m t (some found-block)
+    unfolding top-row
+    row-found = ap (naming-row m t) (cached-at-place c ok (t .«block_id») idents seqnos of-shards of-groups k j e y x)
 
-  pub row-naming : (i : ℕ) → a .found ≡ found-at i → a .entry .«ref_by_mc_seqno» ≡ m →
-      record { seen = true; row = record { «block_id» = t .«block_id»; «ref_by_mc_seqno» = t .«ref_by_mc_seqno»; payload = a .entry .payload } } ≡ pack-seen (top-row-in m n gs t)
-  row-naming i e o =
-      let q : some (record { id = t .«block_id»; reference = t .«ref_by_mc_seqno»; payload = a .entry .payload }) ≡ naming-row m t (some (a .entry)) =
-      rw (eq-eqb (a .entry .«ref_by_mc_seqno») m o) in
-      ap pack-seen (q ∙ row-is (found-at i) e)
+    pub row-foreign : (found-block .«ref_by_mc_seqno» ≡ m → ⊥) → top-row m c t ≡ none
+    row-foreign o = row-found ∙ rw (ne-eqb (found-block .«ref_by_mc_seqno») m o)
 
--- what a row as it is handed on says
-seen-yes : (o : Option Row) (x : SeenTop) → x ≡ pack-seen o → x .seen ≡ true → (r : Row) × ((o ≡ some r) × (x .row ≡ pack-row r))
-seen-yes none x e h = clash h (ap (λ (y : SeenTop). y .seen) e)
-seen-yes (some r) x e h = (r, (refl, ap (λ (y : SeenTop). y .row) e))
+    pub row-naming : found-block .«ref_by_mc_seqno» ≡ m → top-row m c t ≡ some (record { id = t .«block_id»; reference = t .«ref_by_mc_seqno»; payload = found-block .payload })
+    row-naming o = row-found ∙ rw (eq-eqb (found-block .«ref_by_mc_seqno») m o)
 
-seen-no : (o : Option Row) (x : SeenTop) → x ≡ pack-seen o → x .seen ≡ false → o ≡ none
-seen-no none x e h = refl
-seen-no (some r) x e h = clash (ap (λ (y : SeenTop). y .seen) e) h
-
--- ===== the loop over the items =====
+-- ===== the loop over the starting items =====
 
 -- rows, and a view after them
 abbrev after-rows : List Row → View → View
 after-rows rs v = record { rows = rs ++ v .rows; missing = v .missing }
 
-rows-more : (rs : List Row) (r : Row) → each pack-row (rs ++ (r ∷ [])) ≡ each pack-row rs ++ (pack-row r ∷ [])
-rows-more [] r = refl
-rows-more (x ∷ rs) r = ap (λ (ys : List PeekRow). pack-row x ∷ ys) (rows-more rs r)
+module _ (m : ℕ) (c : Cache) (items : TopBlocks) where
+  -- what is left from place n on
+  abbrev from-place : ℕ → View
+  from-place n = held-tops m c (left (items .items) (items .count) n)
 
-module _ (m : ℕ) (c : Cache) (l : List TopBlock) (listed : ℕ) where
-  abbrev view-of : List TopBlock → View
-  view-of ts = held-tops m c (filter (starts (c .«zerostate_mc_seqno»)) ts)
-
-  -- the rows seen so far, in the first places, and what is left to see
-  pub record Viewed (i n : ℕ) (out : List PeekRow) : Type 0 where
+  -- the rows of the first n items, and what is left to see
+  pub record Viewed (n : ℕ) (out : List PeekRow) : Type 0 where
+    pub few : items .count ≤ 8
+    pub whole : length (items .items) ≡ 8
     pub seen-rows : List Row
-    pub few : n ≤ i
     pub count : n ≡ length seen-rows
     pub places : out ≡ padded 8 zero-row (each pack-row seen-rows)
-    pub rest : held-tops m c (filter (starts (c .«zerostate_mc_seqno»)) (take listed l))
-        ≡ after-rows seen-rows (held-tops m c (filter (starts (c .«zerostate_mc_seqno»)) (left l listed i)))
+    pub rest : held-tops m c (listed-tops items) ≡ after-rows seen-rows (from-place n)
 
-  pub view-start : (z : PeekRow) → z ≡ zero-row → Viewed 0 0 (replicate 8 z)
-  view-start z e = record { seen-rows = []; few = le-refl 0; count = refl; places = rw e (sym (padded-nil 8 zero-row)); rest = ap view-of (sym (left-start l listed)) }
+  module _ (tops : TopBlocks) (of-starting : items ≡ pack-tops (filter (starts (c .«zerostate_mc_seqno»)) (listed-tops tops))) where
+    abbrev starting : List TopBlock
+    starting = filter (starts (c .«zerostate_mc_seqno»)) (listed-tops tops)
 
-  module _ (i n : ℕ) (out : List PeekRow) (v : Viewed i n out) where
-    -- nothing is left
-    view-end : left l listed i ≡ [] → record { rows = out; count = n; gap = no-missing } ≡ pack-view (view-of (take listed l))
-    view-end e =
-        let w : after-rows (v .seen-rows) (record { rows = []; missing = none }) ≡ record { rows = v .seen-rows; missing = none } = rw append-nil in
-        let q = v .rest ∙ ap (λ (ts : List TopBlock). after-rows (v .seen-rows) (view-of ts)) e ∙ w in
-        let a = v .places in
-        let b = v .count in
-        (λ j. record { rows = a j; count = b j; gap = no-missing }) ∙ ap pack-view (sym q)
+    pub view-start : length (tops .items) ≡ 8 → length (items .items) ≡ 8 → (z : PeekRow) → z ≡ zero-row → Viewed 0 (replicate 8 z)
+    view-start given long z e =
+        let k = ap (λ (t : TopBlocks). t .count) of-starting in
+        record {
+          few = omega (arith, k, length-filter (starts (c .«zerostate_mc_seqno»)) (listed-tops tops), length-take-few (tops .count) (tops .items));
+          whole = long;
+          seen-rows = [];
+          count = refl;
+          places = rw e (sym (padded-nil 8 zero-row));
+          rest = ap (held-tops m c) (sym (left-start (items .items) (items .count)));
+        }
 
-    pub view-passed : listed ≤ i → record { rows = out; count = n; gap = no-missing } ≡ pack-view (held-tops m c (filter (starts (c .«zerostate_mc_seqno»)) (take listed l)))
-    view-passed h = view-end (left-passed l listed i h)
+    module _ (n : ℕ) (out : List PeekRow) (v : Viewed n out) where
+      -- the view ends with no further row
+      view-ends : (o : Option BlockIdShort) → from-place n ≡ record { rows = []; missing = o } → record { rows = out; count = n; gap = pack-missing o } ≡ pack-view (held-tops m c starting)
+      view-ends o e =
+          let w : after-rows (v .seen-rows) (record { rows = []; missing = o }) ≡ record { rows = v .seen-rows; missing = o } = rw append-nil in
+          let q = v .rest ∙ ap (after-rows (v .seen-rows)) e ∙ w in
+          let t = ap (λ (x : TopBlocks). listed-tops x) of-starting ∙ view-pack-tops starting in
+          let a = v .places in
+          let b = v .count in
+          (λ j. record { rows = a j; count = b j; gap = pack-missing o }) ∙ ap pack-view (sym q) ∙ ap (λ (x : List TopBlock). pack-view (held-tops m c x)) t
 
-    pub view-over : length l ≤ i → record { rows = out; count = n; gap = no-missing } ≡ pack-view (held-tops m c (filter (starts (c .«zerostate_mc_seqno»)) (take listed l)))
-    view-over h = view-end (left-over l listed i h)
+      pub view-passed : items .count ≤ n → record { rows = out; count = n; gap = no-missing } ≡ pack-view (held-tops m c starting)
+      view-passed h = view-ends none (ap (held-tops m c) (left-passed (items .items) (items .count) n h))
 
-    -- d is any item
-    module _ (d : TopBlock) (h : i < length l) (k : i < listed) where
-      more : left l listed i ≡ getD l i d ∷ left l listed (i + 1)
-      more = left-more l listed i d h k
+      -- d is any item
+      module _ (d : TopBlock) (k : n < items .count) where
+        abbrev item : TopBlock
+        item = getD (items .items) n d
 
-      pub view-skip : starts (c .«zerostate_mc_seqno») (getD l i d) ≡ false → Viewed (i + 1) n out
-      view-skip t =
-          let f = v .few in
-          let q : view-of (left l listed i) ≡ view-of (left l listed (i + 1)) = rw (more, t) in
-          record { seen-rows = v .seen-rows; few = omega arith; count = v .count; places = v .places; rest = v .rest ∙ ap (after-rows (v .seen-rows)) q }
+        next : from-place n ≡ seen-held item (top-row m c item) (from-place (n + 1))
+        next = let f = v .few in let w = v .whole in ap (held-tops m c) (left-more (items .items) (items .count) n d (omega arith) k)
 
-      module _ (t : starts (c .«zerostate_mc_seqno») (getD l i d) ≡ true) (x : SeenTop) (e : x ≡ pack-seen (top-row m c (getD l i d))) where
-        starting : view-of (left l listed i) ≡ seen-held (getD l i d) (top-row m c (getD l i d)) (view-of (left l listed (i + 1)))
-        starting = rw (more, t)
+        pub view-stop : top-row m c item ≡ none → (r : TopRows) → r ≡ record { rows = out; count = n; gap = missing-at (key (item .«block_id»)) } → r ≡ pack-view (held-tops m c starting)
+        view-stop o r e = e ∙ view-ends (some (key (item .«block_id»))) (next ∙ ap (λ (x : Option Row). seen-held item x (from-place (n + 1))) o)
 
-        pub view-stop : x .seen ≡ false → (s : BlockIdShort) → s ≡ key (getD l i d .«block_id») →
-            record { rows = out; count = n; gap = missing-at s } ≡ pack-view (held-tops m c (filter (starts (c .«zerostate_mc_seqno»)) (take listed l)))
-        view-stop y s es =
-            let o = seen-no (top-row m c (getD l i d)) x e y in
-            let w : after-rows (v .seen-rows) (record { rows = []; missing = some (key (getD l i d .«block_id»)) }) ≡ record { rows = v .seen-rows; missing = some (key (getD l i d .«block_id»)) } = rw append-nil in
-            let q = v .rest ∙ ap (after-rows (v .seen-rows)) (starting ∙ ap (λ (r : Option Row). seen-held (getD l i d) r (view-of (left l listed (i + 1)))) o) ∙ w in
-            let a = v .places in
-            let b = v .count in
-            (λ j. record { rows = a j; count = b j; gap = missing-at (es j) }) ∙ ap pack-view (sym q)
-
-        pub view-more : x .seen ≡ true → i < 8 → Viewed (i + 1) (n + 1) (set out n (x .row))
-        view-more y b =
+        pub view-more : (r : Row) → top-row m c item ≡ some r → Viewed (n + 1) (set out n (pack-row r))
+        view-more r o =
+            let rs = v .seen-rows in
             let f = v .few in
-            let s = seen-yes (top-row m c (getD l i d)) x e y in
-            let r = s .0 in
-            let nx = view-of (left l listed (i + 1)) in
-            let len : length (each pack-row (v .seen-rows)) ≡ n = length-each pack-row (v .seen-rows) ∙ sym (v .count) in
-            let row-put : set (padded 8 zero-row (each pack-row (v .seen-rows))) n (x .row) ≡ padded 8 zero-row (each pack-row (v .seen-rows ++ (r ∷ []))) =
-            set-padded 8 zero-row (each pack-row (v .seen-rows)) n (x .row) len (omega arith)
-            ∙ ap (λ (y : PeekRow). padded 8 zero-row (each pack-row (v .seen-rows) ++ (y ∷ []))) (s .1 .1) ∙ ap (padded 8 zero-row) (sym (rows-more (v .seen-rows) r)) in
-            let w : after-rows (v .seen-rows) (record { rows = r ∷ nx .rows; missing = nx .missing }) ≡ after-rows (v .seen-rows ++ (r ∷ [])) nx =
-            ap (λ (rs : List Row). record { rows = rs; missing = nx .missing }) (sym (append-assoc (v .seen-rows) (r ∷ []) (nx .rows))) in
+            let nx = from-place (n + 1) in
+            let len : length (each pack-row rs) ≡ n = length-each pack-row rs ∙ sym (v .count) in
+            let w : after-rows rs (record { rows = r ∷ nx .rows; missing = nx .missing }) ≡ after-rows (rs ++ (r ∷ [])) nx =
+            ap (λ (xs : List Row). record { rows = xs; missing = nx .missing }) (sym (append-assoc rs (r ∷ []) (nx .rows))) in
             record {
-              seen-rows = v .seen-rows ++ (r ∷ []);
-              few = omega arith;
-              count = omega (arith, length-append (v .seen-rows) (r ∷ []), v .count);
-              places = ap (λ (o : List PeekRow). set o n (x .row)) (v .places) ∙ row-put;
-              rest = v .rest ∙ ap (after-rows (v .seen-rows)) (starting ∙ ap (λ (o : Option Row). seen-held (getD l i d) o nx) (s .1 .0)) ∙ w;
+              few = f;
+              whole = v .whole;
+              seen-rows = rs ++ (r ∷ []);
+              count = omega (arith, length-append rs (r ∷ []), v .count);
+              places =
+                  ap (λ (xs : List PeekRow). set xs n (pack-row r)) (v .places) ∙ set-padded 8 zero-row (each pack-row rs) n (pack-row r) len (omega arith)
+                  ∙ ap (padded 8 zero-row) (sym (each-append pack-row rs (r ∷ [])));
+              rest = v .rest ∙ ap (after-rows rs) (next ∙ ap (λ (x : Option Row). seen-held item x nx) o) ∙ w;
             }
 
 -- ===== the master =====

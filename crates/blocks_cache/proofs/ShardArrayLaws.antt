@@ -13,7 +13,7 @@ use Rattle.blocks_cache.specs.declared.cache.ShardGroup.{ShardGroup}
 use Rattle.blocks_cache.specs.declared.place.Place.{Place}
 use Rattle.blocks_cache.specs.declared.place.Place.the-variants.{At as place-at, Vacant as place-vacant}
 use Rattle.blocks_cache.specs.declared.shards.Shards.{Shards}
-use Rattle.block_records.proofs.ArrayLaws.{each-put, length-within, take-within, within-few}
+use Rattle.block_records.proofs.ArrayLaws.{each-put, each-take, length-within, take-within, within-few}
 use Rattle.block_records.proofs.BlockIdLaws.{shard-order}
 use Rattle.block_records.proofs.ListLaws.{length-each}
 use Rattle.block_records.proofs.OrderLaws.{asym, differs, less-not-same}
@@ -26,7 +26,7 @@ use Rattle.blocks_cache.proofs.PlaceLaws.{at-place, at-within, inserted
 use Rattle.blocks_cache.specs.CacheLayout.{pack, pack-shard, shard-group-before, zero-shard-group}
 use Rattle.blocks_cache.specs.Model.{Model, ShardModel, find-shard, is-shard, shard-before}
 use Rattle.blocks_cache.specs.Places.{place}
-use Rattle.blocks_cache.specs.ShardArrays.{listed-shards, put-shard, shard-at, shard-below, shard-place, shards-over}
+use Rattle.blocks_cache.specs.ShardArrays.{held-shard, ident-at, ident-below, ident-place, listed-shards, put-shard, shard-at, shard-below, shard-place, shards-over}
 use Rattle.blocks_group.proofs.GroupLayoutLaws.{take-padded-each}
 
 -- ===== a group put at its place =====
@@ -108,6 +108,10 @@ put-shard-packed g m h =
     omega (arith, length-each pack-shard (m .shards), put-longer shard-before g (m .shards)) in
     let o = overwritten-padded 8 zero-shard-group (each pack-shard (put shard-before g (m .shards))) (each pack-shard (m .shards)) l in
     rw (listed-packed m, e, le-leb (length (each pack-shard (put shard-before g (m .shards)))) 8 (omega arith)) (λ i. record { groups = o i; count = n i })
+
+-- the shards' place is that of their groups
+pub idents-place : (s : ShardIdent) (n : ℕ) (gs : List ShardGroup) → ident-place s n (each held-shard gs) ≡ shard-place s n gs
+idents-place s n gs = ap (place (ident-below s) (ident-at s)) (sym (each-take held-shard n gs)) ∙ place-each held-shard (ident-below s) (ident-at s) (take n gs)
 
 -- where a shard's group stands is where the model has it
 pub shard-place-packed : (s : ShardIdent) (m : Model) → shard-place s (pack m .«shard_count») (pack m .shards) ≡ place (λ (g : ShardModel). less-shard (g .shard) s) (is-shard s) (m .shards)

@@ -3,7 +3,8 @@
 use mathlib.Core.Bool.{Bool, _&&_, _||_, false, not, true}
 use mathlib.Core.List.{List, [], _++_, _∷_}
 use mathlib.Core.Logic.{_≢_}
-use mathlib.Core.Path.{_∙_, _≡_, ap, refl, sym}
+use mathlib.Core.Option.{Option, none, some}
+use mathlib.Core.Path.{_∙_, _≡_, ap, ap₂, refl, sym}
 use Prim.Native.Nat.{_+_, _-_, _<_, _≤_, suc, zero, ℕ}
 use native.Mathlib.Omega.{arith}
 use borrow.Author.Tests.{eq-eqb, le-leb, le-ltb, lt-leb, lt-ltb, ltb-false, ltb-true, ne-eqb}
@@ -11,27 +12,28 @@ use lib.Dec.{eqb, leb, ltb}
 use lib.ListN.{getD, length, take}
 use lib.Seq.{length-take-le, take-nil}
 use Rattle.block_records.specs.declared.block_id.BlockId.{BlockId}
+use Rattle.block_records.specs.declared.entry.BlockCacheEntry.{BlockCacheEntry}
 use Rattle.block_records.specs.declared.store_records.PrevIds.{PrevIds}
+use Rattle.blocks_cache.specs.declared.cache.Cache.{Cache}
 use Rattle.blocks_cache.specs.declared.place.Place.{Place}
 use Rattle.blocks_cache.specs.declared.place.Place.the-variants.{At as place-at, Vacant as place-vacant}
 use Rattle.blocks_cache.specs.declared.tail_ids.TailIdsRow.{TailIdsRow}
 use Rattle.blocks_cache.specs.declared.tail_ids.TailRows.{TailRows}
-use Rattle.blocks_cache.specs.declared.tail_ids.TailStep.{TailStep}
-use Rattle.blocks_group.specs.declared.group.EntryAt.{EntryAt}
-use Rattle.blocks_group.specs.declared.search.Found.{Found}
-use Rattle.blocks_group.specs.declared.search.Found.the-variants.{At as found-at, Vacant as vacant-at}
-use Rattle.block_records.proofs.ArrayLaws.{getD-any, length-within, within-few}
+use Rattle.block_records.proofs.ArrayLaws.{getD-any, length-take-few, length-within, within-few}
 use Rattle.block_records.proofs.BlockIdLaws.{id-order, shard-order}
+use Rattle.block_records.proofs.LoopLaws.{take-more}
 use Rattle.block_records.proofs.OrderLaws.{asym}
 use Rattle.block_records.proofs.ScanLaws.{few-listed}
-use Rattle.block_records.proofs.Tests.{on}
+use Rattle.block_records.proofs.Tests.{clash, on}
 use Rattle.block_records.specs.Arrays.{Splices, spliced}
 use Rattle.block_records.specs.BlockIds.{listed-prev-ids, same-id, same-shard}
 use Rattle.block_records.specs.EntryLayout.{pack-prev-ids}
-use Rattle.block_records.specs.Lists.{padded, pick}
+use Rattle.block_records.specs.Lists.{each, padded, pick}
 use Rattle.block_records.specs.Zeros.{zero-prev-ids}
-use Rattle.blocks_cache.proofs.PlaceLaws.{at-within, inserted-few, inserted-many, inserts, put-inserts, put-replaces, replaced-few, replaces, vacant-within}
-use Rattle.blocks_cache.specs.TailArrays.{cached-row, found-step, fresh-ids, hold-row, less-last, listed-tails, missing-row, no-step, put-row, replaces-row, row-at, row-before, row-below, row-held-at, row-place, tail-step, two-ids, with-rows, zero-tail}
+use Rattle.blocks_cache.proofs.PlaceLaws.{at-within, inserted-few, inserted-many, inserts, put-inserts, vacant-within}
+use Rattle.blocks_cache.proofs.TailLevels.{first}
+use Rattle.blocks_cache.specs.Lookups.{cached-block}
+use Rattle.blocks_cache.specs.TailArrays.{cached-step, fingerprint, found-step, fresh-ids, has-number, hold-row, listed-tails, missing-step, no-step, put-row, replaces-last, replaces-row, row-at, row-before, row-below, row-held-at, row-place, set-row, step-of, two-ids, with-rows, zero-tail}
 use Rattle.blocks_cache.specs.TailIdsOnce.{knows, unknown-ids}
 
 -- the first where the test holds, else the second
@@ -41,43 +43,45 @@ picked b x y t = rw t
 pub passed : {A : Type 0} (b : Bool) (x y : A) → b ≡ false → y ≡ pick b x y
 passed b x y t = rw t
 
+or-left : (a b : Bool) → a || b ≡ false → a ≡ false
+or-left true b h = h
+or-left false b h = refl
+
+or-right : (a b : Bool) → a || b ≡ false → b ≡ false
+or-right true b h = clash {b = true} refl h
+or-right false b h = h
+
 -- ===== what an id gives and queues =====
 
-module _ (m : ℕ) (as-top : Bool) (i : BlockId) (a : EntryAt) where
-  pub step-skipped : i .seqno ≡ 0 → (s : TailStep) → s ≡ no-step → s ≡ tail-step m as-top i a
-  step-skipped z s e = e ∙ rw (eq-eqb (i .seqno) 0 z)
+module _ (c : Cache) (m : ℕ) (as-top : Bool) (i : BlockId) where
+  pub step-skipped : i .seqno ≡ 0 → no-step ≡ step-of c m as-top i
+  unfolding step-of
+  step-skipped z = rw (eq-eqb (i .seqno) 0 z)
 
-  module _ (z : i .seqno ≢ 0) (k : ℕ) where
-    taken-step : tail-step m as-top i a ≡ found-step m as-top i (a .found) (a .entry)
-    taken-step = rw (ne-eqb (i .seqno) 0 z)
+  step-taken : i .seqno ≢ 0 → (o : Option BlockCacheEntry) → cached-block i c ≡ o → found-step m as-top i o ≡ step-of c m as-top i
+  unfolding step-of
+  step-taken z o e = rw (ne-eqb (i .seqno) 0 z) (ap (found-step m as-top i) (sym e))
 
-    module _ (f : a .found ≡ vacant-at k) where
-      vacant-step : found-step m as-top i (vacant-at k) (a .entry) ≡ tail-step m as-top i a
-      vacant-step = sym (taken-step ∙ ap (λ (p : Found). found-step m as-top i p (a .entry)) f)
+  module _ (z : i .seqno ≢ 0) where
+    pub step-missing : cached-block i c ≡ none → as-top ≡ true → missing-step i ≡ step-of c m as-top i
+    step-missing e t = picked as-top (missing-step i) no-step t ∙ step-taken z none e
 
-      pub step-missing : as-top ≡ true → (r : TailIdsRow) (q : PrevIds) → r ≡ missing-row i → q ≡ zero-prev-ids → record { given = true; row = r; queued = q } ≡ tail-step m as-top i a
-      step-missing t r q er eq = rw (er, eq) (picked as-top (record { given = true; row = missing-row i; queued = zero-prev-ids }) no-step t ∙ vacant-step)
+    pub step-missed : cached-block i c ≡ none → as-top ≡ false → no-step ≡ step-of c m as-top i
+    step-missed e t = passed as-top (missing-step i) no-step t ∙ step-taken z none e
 
-      pub step-missed : as-top ≡ false → (s : TailStep) → s ≡ no-step → s ≡ tail-step m as-top i a
-      step-missed t s e = e ∙ passed as-top (record { given = true; row = missing-row i; queued = zero-prev-ids }) no-step t ∙ vacant-step
+    module _ (b : BlockCacheEntry) (e : cached-block i c ≡ some b) where
+      pub step-cached : as-top || eqb (b .«ref_by_mc_seqno») m ≡ true → cached-step i (b .«prev_ids») ≡ step-of c m as-top i
+      step-cached t = picked (as-top || eqb (b .«ref_by_mc_seqno») m) (cached-step i (b .«prev_ids»)) no-step t ∙ step-taken z (some b) e
 
-    module _ (f : a .found ≡ found-at k) where
-      cached-step : found-step m as-top i (found-at k) (a .entry) ≡ tail-step m as-top i a
-      cached-step = sym (taken-step ∙ ap (λ (p : Found). found-step m as-top i p (a .entry)) f)
-
-      pub step-cached : as-top || eqb (a .entry .«ref_by_mc_seqno») m ≡ true → (r : TailIdsRow) → r ≡ cached-row i (a .entry .«prev_ids») →
-          record { given = true; row = r; queued = a .entry .«prev_ids» } ≡ tail-step m as-top i a
-      step-cached t r er = rw er (rw t at cached-step)
-
-      pub step-foreign : as-top || eqb (a .entry .«ref_by_mc_seqno») m ≡ false → (s : TailStep) → s ≡ no-step → s ≡ tail-step m as-top i a
-      step-foreign t s e = rw e (rw t at cached-step)
+      pub step-foreign : as-top || eqb (b .«ref_by_mc_seqno») m ≡ false → no-step ≡ step-of c m as-top i
+      step-foreign t = passed (as-top || eqb (b .«ref_by_mc_seqno») m) (cached-step i (b .«prev_ids»)) no-step t ∙ step-taken z (some b) e
 
 -- ===== a row held =====
 
-row-once : (r x : TailIdsRow) → row-before x r ≡ true → row-before r x ≡ false
+pub row-once : (r x : TailIdsRow) → row-before x r ≡ true → row-before r x ≡ false
 row-once r x t = asym shard-order (x .shard) (r .shard) t
 
-row-level : (r x : TailIdsRow) → row-before x r ≡ false → row-at (r .shard) x ≡ not (row-before r x)
+pub row-level : (r x : TailIdsRow) → row-before x r ≡ false → row-at (r .shard) x ≡ not (row-before r x)
 row-level r x t =
     on (same-shard (x .shard) (r .shard))
     (λ u. let e = shard-order .same-eq (x .shard) (r .shard) u in rw (u, e, shard-order .irrefl (r .shard)))
@@ -101,31 +105,20 @@ module _ (t : TailRows) (long : length (t .rows) ≡ 17) (r : TailIdsRow) (k : �
     pub row-listed : k < 17
     row-listed = omega (arith, at-listed, few)
 
-    pub row-replaces : Splices 17 k (k + 1) (length (listed-tails t))
-    row-replaces = replaces 17 r (listed-tails t) few k at-listed
-
-    put-replaced : with-rows (spliced k (k + 1) r (listed-tails t)) ≡ put-row r t
-    put-replaced =
-        let p = put-replaces row-before r (row-at (r .shard)) (row-once r) (row-level r) (listed-tails t) k e in
-        let l = replaced-few 17 r (listed-tails t) few k at-listed in
-        rw (p, l)
-
     -- d is any row
-    module _ (d : TailIdsRow) (less : Bool) (is-less : less ≡ less-last (r .id) (getD (t .rows) k d .id)) where
-      held-test : (b : Bool) → not (getD (t .rows) k d .id .present) || less ≡ b → replaces-row r (getD (t .rows) k zero-tail) ≡ b
-      held-test b h =
-          ap (replaces-row r) (getD-any (t .rows) k zero-tail d (omega (arith, row-listed, long)))
-          ∙ ap (λ (x : Bool). not (getD (t .rows) k d .id .present) || x) (sym is-less) ∙ h
+    module _ (d : TailIdsRow) where
+      held-test : (b : Bool) → replaces-last (r .id) (getD (t .rows) k d .id) ≡ b → replaces-row r (getD (t .rows) k zero-tail) ≡ b
+      held-test b h = ap (replaces-row r) (getD-any (t .rows) k zero-tail d (omega (arith, row-listed, long))) ∙ h
 
       held-placed : row-held-at r (place-at k) t ≡ hold-row r t
       unfolding hold-row
       held-placed = ap (λ (p : Place). row-held-at r p t) (sym e)
 
-      pub hold-replaces : not (getD (t .rows) k d .id .present) || less ≡ true → (x : TailRows) → x ≡ with-rows (spliced k (k + 1) r (listed-tails t)) → x ≡ hold-row r t
-      hold-replaces h x q = q ∙ put-replaced ∙ picked (replaces-row r (getD (t .rows) k zero-tail)) (put-row r t) t (held-test true h) ∙ held-placed
+      pub hold-replaces : replaces-last (r .id) (getD (t .rows) k d .id) ≡ true → set-row k r t ≡ hold-row r t
+      hold-replaces h = picked (replaces-row r (getD (t .rows) k zero-tail)) (set-row k r t) t (held-test true h) ∙ held-placed
 
-      pub hold-keeps : not (getD (t .rows) k d .id .present) || less ≡ false → t ≡ hold-row r t
-      hold-keeps h = passed (replaces-row r (getD (t .rows) k zero-tail)) (put-row r t) t (held-test false h) ∙ held-placed
+      pub hold-keeps : replaces-last (r .id) (getD (t .rows) k d .id) ≡ false → t ≡ hold-row r t
+      hold-keeps h = passed (replaces-row r (getD (t .rows) k zero-tail)) (set-row k r t) t (held-test false h) ∙ held-placed
 
   module _ (e : row-place (r .shard) t ≡ place-vacant k) where
     vacant-listed : k ≤ length (listed-tails t)
@@ -221,3 +214,73 @@ module _ (ids : List BlockId) (long : length ids ≡ 258) (count : ℕ) (prev : 
       let many : 256 < length (take count ids) + length unknown =
       on (ltb count 258) (λ t. let m : length (take count ids) ≡ count = l ∙ rw t in omega (arith, m, few, fresh-count)) (λ t. let m : length (take count ids) ≡ 258 = l ∙ rw t in omega (arith, m)) in
       q ∙ ap pack-prev-ids (passed (leb (length (take count ids) + length unknown) 256) unknown [] (lt-leb (length (take count ids) + length unknown) 256 many))
+
+-- ===== fingerprints =====
+
+-- one number more
+number-snoc : (ns : List ℕ) (k n : ℕ) → has-number (ns ++ (k ∷ [])) n ≡ has-number ns n || eqb k n
+number-snoc [] k n = on (eqb k n) (λ t. rw t) (λ t. rw t)
+number-snoc (x ∷ ns) k n = on (eqb x n) (λ t. rw t) (λ t. rw t (number-snoc ns k n))
+
+pub number-next : (ns : List ℕ) (i n : ℕ) → i < length ns → has-number (take i ns) n || eqb (getD ns i 0) n ≡ has-number (take (i + 1) ns) n
+number-next ns i n h = sym (ap (λ (xs : List ℕ). has-number xs n) (take-more ns i 0 h) ∙ number-snoc (take i ns) (getD ns i 0) n)
+
+-- an id whose fingerprint is not there is not known
+no-fingerprint : (i : BlockId) (ids : List BlockId) → has-number (each fingerprint ids) (fingerprint i) ≡ false → knows ids i ≡ false
+no-fingerprint i [] h = refl
+no-fingerprint i (x ∷ ids) h =
+    on (eqb (fingerprint x) (fingerprint i))
+    (λ t. clash {b = true} refl (rw t at h))
+    (λ t. on (same-id i x)
+    (λ u. clash (eq-eqb (fingerprint x) (fingerprint i) (ap fingerprint (sym (id-order .same-eq i x u)))) t)
+    (λ u. rw u (no-fingerprint i ids (rw t at h))))
+
+-- two ids, as many as there are
+two-taken : (p q : BlockId) (n : ℕ) → two-ids p (ltb 0 n) q (ltb 1 n) ≡ take n (p ∷ q ∷ [])
+two-taken p q zero = refl
+two-taken p q (suc zero) = refl
+two-taken p q (suc (suc n)) = rw (lt-ltb 0 (suc (suc n)) (omega arith), lt-ltb 1 (suc (suc n)) (omega arith), take-nil n)
+
+-- neither is known, and they are two: both are new
+new-ids : (known : List BlockId) (p q : BlockId) (n : ℕ) → knows known p ≡ false → knows known q ≡ false → same-id q p ≡ false → unknown-ids known (take n (p ∷ q ∷ [])) ≡ take n (p ∷ q ∷ [])
+new-ids known p q n f g s =
+    two-unknown known p q n ∙ rw (f, g, s) (ap₂ (λ (a b : Bool). two-ids p a q b) (and-true (ltb 0 n)) (and-true (ltb 1 n)) ∙ two-taken p q n)
+  where
+    and-true : (b : Bool) → b && true ≡ b
+    and-true true = refl
+    and-true false = refl
+
+module _ (ids : List BlockId) (long : length ids ≡ 258) (count : ℕ) (prints : List ℕ) (of-ids : prints ≡ each fingerprint (take count ids)) (prev : PrevIds) (two : length (prev .ids) ≡ 2) (d e : BlockId)
+    (first second : ℕ) (is-first : first ≡ fingerprint (getD (prev .ids) 0 d)) (is-second : second ≡ fingerprint (getD (prev .ids) 1 e))
+    (has-first has-second : Bool) (tells-first : has-first ≡ has-number prints first) (tells-second : has-second ≡ has-number prints second) where
+  abbrev p : BlockId
+  p = getD (prev .ids) 0 d
+
+  abbrev q : BlockId
+  q = getD (prev .ids) 1 e
+
+  unknown-by : (i : BlockId) (n : ℕ) (b : Bool) → n ≡ fingerprint i → b ≡ has-number prints n → b ≡ false → knows (take count ids) i ≡ false
+  unknown-by i n b en eb f =
+      no-fingerprint i (take count ids) (ap₂ (λ (k : ℕ) (ps : List ℕ). has-number ps k) (sym en) (sym of-ids) ∙ sym eb ∙ f)
+
+  pub all-new : ((has-first || has-second) || eqb first second) || ltb 254 count ≡ false → (r : PrevIds) → r ≡ pack-prev-ids (listed-prev-ids prev) →
+      r ≡ pack-prev-ids (fresh-ids (take count ids) (listed-prev-ids prev))
+  unfolding fresh-ids
+  all-new h r er =
+      let h₁ = or-left ((has-first || has-second) || eqb first second) (ltb 254 count) h in
+      let h₂ = or-left (has-first || has-second) (eqb first second) h₁ in
+      let few : count ≤ 254 = ltb-false 254 count (or-right ((has-first || has-second) || eqb first second) (ltb 254 count) h) in
+      let other : same-id q p ≡ false =
+      on (same-id q p)
+      (λ t. clash (eq-eqb first second (is-first ∙ sym (is-second ∙ ap fingerprint (id-order .same-eq q p t)))) (or-right (has-first || has-second) (eqb first second) h₁))
+      (λ t. t) in
+      let ps : listed-prev-ids prev ≡ take (prev .count) (p ∷ q ∷ []) = ap (take (prev .count)) (two-places (prev .ids) d e two) in
+      let new : unknown-ids (take count ids) (listed-prev-ids prev) ≡ listed-prev-ids prev =
+      ap (unknown-ids (take count ids)) ps
+      ∙ new-ids (take count ids) p q (prev .count) (unknown-by p first has-first is-first tells-first (or-left has-first has-second h₂))
+      (unknown-by q second has-second is-second tells-second (or-right has-first has-second h₂)) other
+      ∙ sym ps in
+      let l : length (take count ids) ≡ count = length-take-le count ids (omega arith) in
+      let n : length (listed-prev-ids prev) ≤ 2 = omega (arith, two, length-take-few (prev .count) (prev .ids)) in
+      let t = le-leb (length (take count ids) + length (unknown-ids (take count ids) (listed-prev-ids prev))) 256 (omega (arith, l, n, ap length new)) in
+      er ∙ ap pack-prev-ids (sym new ∙ picked (leb (length (take count ids) + length (unknown-ids (take count ids) (listed-prev-ids prev))) 256) (unknown-ids (take count ids) (listed-prev-ids prev)) [] t)

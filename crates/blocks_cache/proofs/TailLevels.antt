@@ -7,16 +7,13 @@ use mathlib.Core.Path.{_≡_, ap, refl, subst, sym}
 use Prim.Native.Nat.{_<_, max, suc, zero, ℕ}
 use native.Mathlib.Omega.{arith}
 use Rattle.block_records.specs.declared.block_id.BlockId.{BlockId}
+use Rattle.block_records.proofs.ArrayLaws.{each-append}
 use Rattle.block_records.specs.Lists.{each, flat-map}
 use Rattle.blocks_cache.specs.Calls.{TailRow}
 use Rattle.blocks_cache.specs.Model.{ShardModel}
 use Rattle.blocks_cache.specs.TailIds.{Fifo, Waiting, fifo-end, fifo-next, gives, highest, levels, queues, waits}
 
 module _ {A B : Type 0} where
-  pub each-append : (f : A → B) (xs ys : List A) → each f (xs ++ ys) ≡ each f xs ++ each f ys
-  each-append f [] ys = refl
-  each-append f (x ∷ xs) ys = ap {B = List B} (λ (r : List B). f x ∷ r) (each-append f xs ys)
-
   pub flat-map-append : (f : A → List B) (xs ys : List A) → flat-map f (xs ++ ys) ≡ flat-map f xs ++ flat-map f ys
   flat-map-append f [] ys = refl
   flat-map-append f (x ∷ xs) ys = rw (flat-map-append f xs ys) (sym (append-assoc (f x) (flat-map f xs) (flat-map f ys)))

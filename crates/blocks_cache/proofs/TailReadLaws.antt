@@ -9,7 +9,7 @@ use native.Mathlib.Nat.{le-refl}
 use native.Mathlib.Omega.{arith}
 use borrow.Author.Tests.{le-leb, leb-true, lt-ltb}
 use lib.Dec.{eqb, leb}
-use lib.ListN.{getD, length, length-append}
+use lib.ListN.{getD, length, length-append, set, take}
 use lib.Seq.{getD-at, getD-take}
 use Rattle.block_records.specs.declared.block_id.BlockId.{BlockId}
 use Rattle.block_records.specs.declared.block_id.BlockIdShort.{BlockIdShort}
@@ -23,51 +23,49 @@ use Rattle.blocks_cache.specs.declared.place.Place.the-variants.{At as p
 use Rattle.blocks_cache.specs.declared.tail_ids.TailAnswer.the-variants.{Refused as tails-refused, Rows as tails-given}
 use Rattle.blocks_cache.specs.declared.tail_ids.TailIds.{TailIds}
 use Rattle.blocks_cache.specs.declared.tail_ids.TailIdsRow.{TailIdsRow}
-use Rattle.blocks_cache.specs.declared.tail_ids.TailStep.{TailStep}
-use Rattle.blocks_group.specs.declared.search.Found.{Found}
-use Rattle.blocks_group.specs.declared.search.Found.the-variants.{At as found-at, Vacant as vacant-at}
 use Rattle.block_records.proofs.ArrayLaws.{each-put, getD-any, getD-each}
 use Rattle.block_records.proofs.BlockIdLaws.{shard-order}
 use Rattle.block_records.proofs.EntryLayoutLaws.{take-padded, view-pack-prev-ids, view-pack-tops}
 use Rattle.block_records.proofs.Finds.{find-member}
 use Rattle.block_records.proofs.ListLaws.{all-member, length-each}
 use Rattle.block_records.proofs.OrderLaws.{differs, less-not-same}
-use Rattle.block_records.proofs.ScanLaws.{put-longer}
-use Rattle.block_records.proofs.Tests.{and-right, clash, on, some-not-none}
+use Rattle.block_records.proofs.ScanLaws.{overwritten-padded, put-longer, replaced-length, set-replaces}
+use Rattle.block_records.proofs.Tests.{and-right, clash, on}
+use Rattle.block_records.specs.Arrays.{overwritten, spliced}
 use Rattle.block_records.specs.BlockIds.{id-shard, is-masterchain, key, less-shard, listed-prev-ids, listed-tops, same-shard}
 use Rattle.block_records.specs.Entries.{Entry}
 use Rattle.block_records.specs.EntryLayout.{pack-entry, pack-master, pack-prev-ids, pack-tops}
-use Rattle.block_records.specs.Lists.{each, find, flat-map, fold, pick, present, put, rising}
+use Rattle.block_records.specs.Lists.{each, find, flat-map, fold, padded, pick, present, put, rising}
 use Rattle.block_records.specs.Questions.{Question, ask, entry-fits, first-no, key-fits}
 use Rattle.block_records.specs.Zeros.{zero-id, zero-prev-ids}
+use Rattle.blocks_cache.proofs.BlockPlaceLaws.{cached-block-packed}
 use Rattle.blocks_cache.proofs.CacheLayoutLaws.{sound-cache-packed}
-use Rattle.blocks_cache.proofs.CacheLookupLaws.{entry-under-packed}
 use Rattle.blocks_cache.proofs.CallLaws.{unsound-answers-1}
 use Rattle.blocks_cache.proofs.CallOnLaws.{first-part-refuses, on-sound, second-part-decides}
 use Rattle.blocks_cache.proofs.CountLaws.{shards-previous}
-use Rattle.blocks_cache.proofs.PlaceLaws.{at-place, at-within, place-each, place-finds}
+use Rattle.blocks_cache.proofs.PlaceLaws.{at-place, at-within, place-each, place-finds, put-replaces}
 use Rattle.blocks_cache.proofs.SoundLaws.{parts}
 use Rattle.blocks_cache.proofs.TailAnswer.{at-most-17, done-fits, ended, tails-same}
-use Rattle.blocks_cache.proofs.TailArrayLaws.{passed, picked}
+use Rattle.blocks_cache.proofs.TailArrayLaws.{passed, picked, row-level, row-once}
 use Rattle.blocks_cache.proofs.TailLevels.{flat-map-append}
 use Rattle.blocks_cache.proofs.TailRows.{fold-append, fold-rising}
-use Rattle.blocks_cache.proofs.TailWalkLaws.{queue-passed}
+use Rattle.blocks_cache.proofs.TailWalkLaws.{padded-longer, queue-passed}
 use Rattle.blocks_cache.specs.CacheLayout.{call-on, pack, pack-outcome, sound-cache, view}
 use Rattle.blocks_cache.specs.Calls.{Call, Effect, TailRow, done, read-tail-ids, refused, tail-ids, unlent}
 use Rattle.blocks_cache.specs.CaseCalls.{slice}
 use Rattle.blocks_cache.specs.Effects.{answered, effect, outcome-of, plain, tail-ids-entry}
 use Rattle.blocks_cache.specs.Extraction.{previous-cached, top-id}
-use Rattle.blocks_cache.specs.Lookups.{entry-under}
+use Rattle.blocks_cache.specs.Lookups.{cached-block}
 use Rattle.blocks_cache.specs.MasterDataArrays.{pack-last, view-last}
 use Rattle.blocks_cache.specs.Model.{Model, ShardModel, lookup}
 use Rattle.blocks_cache.specs.Places.{place}
 use Rattle.blocks_cache.specs.Refusals.{further, sound}
-use Rattle.blocks_cache.specs.TailArrays.{TailState, block-tails, cached-row, found-step, fresh-ids, given-tails, hold-given, hold-row, less-last, listed-tails, missing-row, no-step, no-tails, pack-tail, pack-tails, put-row, read-tails, replaces-row, row-at, row-before, row-below, row-held-at, row-place, step-in, step-of, tail-outcome, tails-at, take-queued, take-tail-id, view-tail, view-tails, zero-tail, zeroed-tails}
+use Rattle.blocks_cache.specs.TailArrays.{TailState, TailStep, block-tails, cached-row, found-step, fresh-ids, given-tails, hold-given, hold-row, less-last, listed-tails, missing-row, no-step, no-tails, pack-tail, pack-tails, put-row, read-tails, replaces-row, row-at, row-before, row-below, row-held-at, row-place, set-row, step-of, tail-outcome, tails-at, take-queued, take-tail-id, view-tail, view-tails, zero-tail, zeroed-tails}
 use Rattle.blocks_cache.specs.TailIds.{first-row, found-gives, found-queues, gives, held, hold, less-option, queues, tail-before, tails-of, top-ids}
 use Rattle.blocks_cache.specs.TailIdsOnce.{OnceWalk, knows, once-begin, once-id, once-one, once-times, unknown-ids}
 use Rattle.blocks_group.proofs.GroupArrayLaws.{master-at-packed}
 use Rattle.blocks_group.proofs.GroupLaws.{GroupParts, group-parts}
-use Rattle.blocks_group.specs.GroupArrays.{answered-master, master-at, when-found}
+use Rattle.blocks_group.specs.GroupArrays.{answered-master, master-at}
 use Rattle.blocks_group.specs.GroupLayout.{pack-master-group}
 use Rattle.blocks_group.specs.GroupRules.{at-seqno, has-seqno}
 use Rattle.blocks_group.specs.GroupSoundness.{fits-in}
@@ -134,6 +132,26 @@ row-packed-at rows k d h =
     ∙ getD-any (each pack-tail rows) k zero-tail (pack-tail d) (omega arith)
     ∙ getD-each pack-tail rows k d
 
+-- a row in the place of another of its shard
+set-packed : (t : TailRow) (rows : List TailRow) (k : ℕ) → row-place (t .shard) (pack-tails rows) ≡ place-at k → k < length rows → set-row k (pack-tail t) (pack-tails rows) ≡ pack-tails (put tail-before t rows)
+set-packed t rows k e l =
+    let n = length-each pack-tail rows in
+    let xs = each pack-tail rows in
+    let m : put row-before (pack-tail t) xs ≡ spliced k (k + 1) (pack-tail t) xs =
+    put-replaces row-before (pack-tail t) (row-at (t .shard)) (row-once (pack-tail t)) (row-level (pack-tail t)) xs k (sym (ap (place (row-below (t .shard)) (row-at (t .shard))) (listed-packed rows)) ∙ e) in
+    let q : put row-before (pack-tail t) xs ≡ each pack-tail (put tail-before t rows) = each-put pack-tail tail-before row-before (λ x y. refl) t rows in
+    let s : take (length xs) (padded 17 zero-tail xs) ≡ xs = take-padded 17 zero-tail xs in
+    let long = padded-longer 17 zero-tail xs in
+    let c : length xs ≡ length (spliced k (k + 1) (pack-tail t) xs) =
+    replaced-length (pack-tail t) (padded 17 zero-tail xs) (length xs) long k (omega arith) ∙ ap (λ (ys : List TailIdsRow). length (spliced k (k + 1) (pack-tail t) ys)) s in
+    let a : set (padded 17 zero-tail xs) k (pack-tail t) ≡ padded 17 zero-tail (each pack-tail (put tail-before t rows)) =
+    set-replaces (pack-tail t) (padded 17 zero-tail xs) (length xs) long k (omega arith)
+    ∙ ap (λ (ys : List TailIdsRow). overwritten (spliced k (k + 1) (pack-tail t) ys) (padded 17 zero-tail xs)) s
+    ∙ overwritten-padded 17 zero-tail (spliced k (k + 1) (pack-tail t) xs) xs (omega (arith, c))
+    ∙ ap (padded 17 zero-tail) (sym m ∙ q) in
+    let b : length xs ≡ length (each pack-tail (put tail-before t rows)) = c ∙ ap (λ (ys : List TailIdsRow). length ys) (sym m ∙ q) in
+    λ i. record { rows = a i; count = b i }
+
 module _ (rows : List TailRow) (t : TailRow) (rises : rising tail-before rows ≡ true) (few : length (hold rows t) ≤ 17) where
   hold-by : (p : Place) → row-place (t .shard) (pack-tails rows) ≡ p → row-held-at (pack-tail t) p (pack-tails rows) ≡ pack-tails (hold rows t)
   hold-by (place-vacant k) e =
@@ -150,11 +168,11 @@ module _ (rows : List TailRow) (t : TailRow) (rises : rising tail-before rows �
       on (not (present (h .id)) || less-option (t .id) (h .id))
       (λ u.
       let v : hold rows t ≡ put tail-before t rows = q ∙ sym (picked (not (present (h .id)) || less-option (t .id) (h .id)) (put tail-before t rows) rows u) in
-      sym (picked (replaces-row (pack-tail t) (getD (pack-tails rows .rows) k zero-tail)) (put-row (pack-tail t) (pack-tails rows)) (pack-tails rows) (g ∙ u))
-      ∙ put-packed t rows (subst (λ (xs : List TailRow). length xs ≤ 17) v few) ∙ ap pack-tails (sym v))
+      sym (picked (replaces-row (pack-tail t) (getD (pack-tails rows .rows) k zero-tail)) (set-row k (pack-tail t) (pack-tails rows)) (pack-tails rows) (g ∙ u))
+      ∙ set-packed t rows k e l ∙ ap pack-tails (sym v))
       (λ u.
       let v : hold rows t ≡ rows = q ∙ sym (passed (not (present (h .id)) || less-option (t .id) (h .id)) (put tail-before t rows) rows u) in
-      sym (passed (replaces-row (pack-tail t) (getD (pack-tails rows .rows) k zero-tail)) (put-row (pack-tail t) (pack-tails rows)) (pack-tails rows) (g ∙ u)) ∙ ap pack-tails (sym v))
+      sym (passed (replaces-row (pack-tail t) (getD (pack-tails rows .rows) k zero-tail)) (set-row k (pack-tail t) (pack-tails rows)) (pack-tails rows) (g ∙ u)) ∙ ap pack-tails (sym v))
 
   pub hold-packed : hold-row (pack-tail t) (pack-tails rows) ≡ pack-tails (hold rows t)
   unfolding hold-row
@@ -180,24 +198,16 @@ cached-says : (i : BlockId) (ps : List BlockId) →
 cached-says i ps = record { holds = λ rows r h. hold-packed rows (record { shard = id-shard i; id = some i; previous = ps }) r h; queues-them = view-pack-prev-ids ps }
 
 module _ (m : ℕ) (as-top : Bool) (i : BlockId) where
-  found-says : (f : Found) (b : BlockCacheEntry) (o : Option Entry) → when-found f b ≡ Option·map pack-entry o → Says (found-step m as-top i f b) (found-gives m as-top i o) (found-queues m as-top o)
-  found-says (vacant-at k) b none e = on as-top (λ t. rw t (missing-says i)) (λ t. rw t no-step-says)
-  found-says (vacant-at k) b (some x) e = some-not-none refl (sym e)
-  found-says (found-at k) b none e = some-not-none refl e
-  found-says (found-at k) b (some x) e =
-      let q : b ≡ pack-entry x = some-inj e in
-      on (as-top || eqb (x .reference) m)
-      (λ t. rw (q, t) (cached-says i (x .previous)))
-      (λ t. rw (q, t) no-step-says)
-    where
-      some-inj : {A : Type 0} {a c : A} → some a ≡ some c → a ≡ c
-      some-inj p = cc
+  found-says : (o : Option Entry) → Says (found-step m as-top i (Option·map pack-entry o)) (found-gives m as-top i o) (found-queues m as-top o)
+  found-says none = on as-top (λ t. rw t (missing-says i)) (λ t. rw t no-step-says)
+  found-says (some x) = on (as-top || eqb (x .reference) m) (λ t. rw t (cached-says i (x .previous))) (λ t. rw t no-step-says)
 
   step-says : (mo : Model) → sound mo ≡ true → Says (step-of (pack mo) m as-top i) (gives (mo .shards) m as-top i) (queues (mo .shards) m as-top i)
-  unfolding step-in entry-under
+  unfolding step-of
   step-says mo ok =
-      let a = entry-under (key i) (pack mo) in
-      let f = found-says (a .found) (a .entry) (lookup (mo .shards) (key i)) (entry-under-packed (key i) mo ok) in
+      let o = lookup (mo .shards) (key i) in
+      let f : Says (found-step m as-top i (cached-block i (pack mo))) (found-gives m as-top i o) (found-queues m as-top o) =
+      subst (λ (b : Option BlockCacheEntry). Says (found-step m as-top i b) (found-gives m as-top i o) (found-queues m as-top o)) (sym (cached-block-packed mo ok i)) (found-says o) in
       on (eqb (i .seqno) 0) (λ t. rw t no-step-says) (λ t. rw t f)
 
 -- ===== rows do not become fewer =====

@@ -1,38 +1,28 @@
 -- What extraction does to the arrays, for every input: the groups are looked up by their entries' seqnos, and moved together once at the end.
 -- On a sound cache that is the rule, packed (proofs/ExtractionRun).
 -- Assumes nothing.
-use mathlib.Core.Bool.{Bool, _&&_, false, true}
+use mathlib.Core.Bool.{Bool, false}
 use mathlib.Core.List.{List, [], _++_, _∷_}
 use Prim.Native.Nat.{ℕ}
-use lib.Dec.{eqb}
-use lib.ListN.{getD, length, replicate, set}
+use lib.ListN.{length, set}
 use Rattle.block_records.specs.declared.block_id.BlockId.{BlockId}
-use Rattle.block_records.specs.declared.block_id.ShardIdent.{ShardIdent}
-use Rattle.block_records.specs.declared.entry.BlockCacheEntry.{BlockCacheEntry}
 use Rattle.block_records.specs.declared.entry.MasterBlock.{MasterBlock}
 use Rattle.block_records.specs.declared.top_block.TopBlocks.{TopBlocks}
 use Rattle.blocks_cache.specs.declared.cache.ShardGroup.{ShardGroup}
-use Rattle.blocks_cache.specs.declared.extraction.BlockPlace.{BlockPlace}
-use Rattle.blocks_cache.specs.declared.extraction.BlockPlace.the-variants.{Absent as block-absent, At as block-found}
-use Rattle.blocks_cache.specs.declared.extraction.EntrySeqno.{EntrySeqno}
 use Rattle.blocks_cache.specs.declared.extraction.Extraction.{Extraction}
-use Rattle.blocks_cache.specs.declared.extraction.GroupSeqnos.{GroupSeqnos}
 use Rattle.blocks_cache.specs.declared.extraction.WaitingList.{WaitingList}
+use Rattle.blocks_cache.specs.declared.lookup.EntrySeqno.{EntrySeqno}
+use Rattle.blocks_cache.specs.declared.lookup.GroupSeqnos.{GroupSeqnos}
 use Rattle.blocks_group.specs.declared.group.Group.{Group}
-use Rattle.blocks_group.specs.declared.mark.Mark.the-variants.{Absent as no-mark}
-use Rattle.blocks_group.specs.declared.search.Found.{Found}
-use Rattle.blocks_group.specs.declared.search.Found.the-variants.{At as found-at, Vacant as vacant-at}
 use Rattle.block_records.specs.Arrays.{flagged}
-use Rattle.block_records.specs.BlockIds.{id-shard, listed-tops, same-shard}
+use Rattle.block_records.specs.BlockIds.{listed-tops}
 use Rattle.block_records.specs.Entries.{Entry}
 use Rattle.block_records.specs.EntryLayout.{pack-entry, view-entry}
 use Rattle.block_records.specs.Lists.{each, filter, padded}
 use Rattle.block_records.specs.Zeros.{zero-entry, zero-id}
 use Rattle.blocks_cache.specs.CacheLayout.{pack-shard, zero-shard-group}
 use Rattle.blocks_cache.specs.Extraction.{Walk, starts, top-id}
-use Rattle.blocks_group.specs.GroupArrays.{listed-entries, record-seqno}
 use Rattle.blocks_group.specs.GroupLayout.{pack-mark, view-mark}
-use Rattle.blocks_group.specs.GroupQueries.{first-place}
 use Rattle.blocks_group.specs.GroupRules.{refreshed}
 
 -- ===== the waiting list =====
@@ -48,48 +38,6 @@ held-starting-ids zerostate t = each top-id (filter (starts zerostate) (listed-t
 -- these ids wait
 abbrev pub waiting-list : List BlockId → WaitingList
 waiting-list ids = record { ids = padded 264 zero-id ids; count = length ids }
-
--- ===== the seqnos of a group's entries =====
-
-unfoldable pub no-seqno-here : EntrySeqno
-no-seqno-here = record { seqno = 0; cached = false }
-
-abbrev pub seqno-here : BlockCacheEntry → EntrySeqno
-seqno-here b = record { seqno = record-seqno b; cached = true }
-
--- of the listed entries; none in the places after them
-abbrev pub group-seqnos : Group → GroupSeqnos
-group-seqnos g = record { entries = padded 16 no-seqno-here (each seqno-here (listed-entries g)); mark = g .mark }
-
-unfoldable pub no-seqnos : GroupSeqnos
-no-seqnos = record { entries = replicate 16 no-seqno-here; mark = no-mark }
-
-abbrev pub shard-seqnos : ShardGroup → GroupSeqnos
-shard-seqnos g = group-seqnos (g .group)
-
-abbrev pub held-shard : ShardGroup → ShardIdent
-held-shard g = g .shard
-
--- ===== the lookup =====
-
-abbrev pub is-ident : ShardIdent → ShardIdent → Bool
-is-ident s x = same-shard x s
-
--- the seqno of an entry that is still cached
-abbrev pub cached-at : ℕ → EntrySeqno → Bool
-cached-at n x = x .cached && eqb (x .seqno) n
-
-abbrev pub place-in : ℕ → Found → BlockPlace
-place-in k (found-at j) = block-found k j
-place-in k (vacant-at j) = block-absent
-
-abbrev pub place-of : BlockId → List GroupSeqnos → Found → BlockPlace
-place-of i seqnos (found-at k) = place-in k (first-place (cached-at (i .seqno)) 0 (getD seqnos k no-seqnos .entries))
-place-of i seqnos (vacant-at k) = block-absent
-
--- by shard and seqno alone
-unfoldable pub block-place : BlockId → List ShardIdent → List GroupSeqnos → BlockPlace
-block-place i idents seqnos = place-of i seqnos (first-place (is-ident (id-shard i)) 0 idents)
 
 -- ===== a block leaves its group =====
 

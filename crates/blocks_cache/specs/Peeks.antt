@@ -1,7 +1,6 @@
 -- Document 01, Whole cache, Peek: what the code reads from a cache as it is held, for every cache, sound or not, and what its answer says.
 -- On a packed cache this is the rule (proofs/PeekLaws).
 -- Assumes nothing.
-use mathlib.Core.Bool.{false, true}
 use mathlib.Core.List.{List, [], _∷_}
 use mathlib.Core.Option.{Option, none, some}
 use Prim.Native.Nat.{ℕ}
@@ -12,14 +11,12 @@ use Rattle.block_records.specs.declared.entry.BlockCacheEntry.{BlockCacheEntry}
 use Rattle.block_records.specs.declared.entry.MasterBlock.{MasterBlock}
 use Rattle.block_records.specs.declared.top_block.TopBlock.{TopBlock}
 use Rattle.blocks_cache.specs.declared.cache.Cache.{Cache}
-use Rattle.blocks_cache.specs.declared.cache.ShardGroup.{ShardGroup}
 use Rattle.blocks_cache.specs.declared.peek.MissingTop.{MissingTop}
 use Rattle.blocks_cache.specs.declared.peek.MissingTop.the-variants.{Absent as no-missing, At as missing-at}
 use Rattle.blocks_cache.specs.declared.peek.Peek.{Peek}
 use Rattle.blocks_cache.specs.declared.peek.PeekAnswer.{PeekAnswer}
 use Rattle.blocks_cache.specs.declared.peek.PeekAnswer.the-variants.{Found as peek-found, Nothing as peek-nothing, Refused as peek-refused}
 use Rattle.blocks_cache.specs.declared.peek.PeekRow.{PeekRow}
-use Rattle.blocks_cache.specs.declared.peek.SeenTop.{SeenTop}
 use Rattle.blocks_cache.specs.declared.peek.TopRows.{TopRows}
 use Rattle.block_records.specs.BlockIds.{key, listed-tops}
 use Rattle.block_records.specs.Lists.{each, filter, padded, pick}
@@ -27,8 +24,8 @@ use Rattle.block_records.specs.Zeros.{zero-id}
 use Rattle.blocks_cache.specs.CacheLayout.{HeldOutcome}
 use Rattle.blocks_cache.specs.Calls.{Answer, Row, View, nothing, peeked, refused}
 use Rattle.blocks_cache.specs.Extraction.{starts}
-use Rattle.blocks_cache.specs.Lookups.{entry-in-groups}
-use Rattle.blocks_group.specs.GroupArrays.{answered-entry, answered-master}
+use Rattle.blocks_cache.specs.Lookups.{cached-block}
+use Rattle.blocks_group.specs.GroupArrays.{answered-master}
 use Rattle.blocks_group.specs.GroupQueries.{first-applied-master}
 
 -- ===== rows =====
@@ -86,18 +83,9 @@ naming-row m t none = none
 naming-row m t (some b) =
     pick (eqb (b .«ref_by_mc_seqno») m) (some (record { id = t .«block_id»; reference = t .«ref_by_mc_seqno»; payload = b .payload })) none
 
--- the row of a top that is cached naming M, among so many groups
-unfoldable pub top-row-in : ℕ → ℕ → List ShardGroup → TopBlock → Option Row
-top-row-in m n gs t = naming-row m t (answered-entry (entry-in-groups (key (t .«block_id»)) n gs))
-
--- in a cache
-abbrev pub top-row : ℕ → Cache → TopBlock → Option Row
-top-row m c t = top-row-in m (c .«shard_count») (c .shards) t
-
--- where there is none, zeros
-abbrev pub pack-seen : Option Row → SeenTop
-pack-seen none = record { seen = false; row = zero-row }
-pack-seen (some r) = record { seen = true; row = pack-row r }
+-- the row of a top that is cached naming M
+unfoldable pub top-row : ℕ → Cache → TopBlock → Option Row
+top-row m c t = naming-row m t (cached-block (t .«block_id») c)
 
 -- the first that isn't ends the view and its key is reported
 abbrev pub seen-held : TopBlock → Option Row → View → View

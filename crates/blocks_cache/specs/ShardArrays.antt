@@ -20,11 +20,25 @@ use Rattle.blocks_cache.specs.Places.{place}
 abbrev pub listed-shards : ℕ → ℕ
 listed-shards n = pick (ltb n 8) n 8
 
+-- the shard of a group
+abbrev pub held-shard : ShardGroup → ShardIdent
+held-shard g = g .shard
+
+abbrev pub ident-below : ShardIdent → ShardIdent → Bool
+ident-below s x = less-shard x s
+
+abbrev pub ident-at : ShardIdent → ShardIdent → Bool
+ident-at s x = same-shard x s
+
+-- where a shard stands among the first n, or the place where it would go in
+abbrev pub ident-place : ShardIdent → ℕ → List ShardIdent → Place
+ident-place s n is = place (ident-below s) (ident-at s) (take n is)
+
 abbrev pub shard-below : ShardIdent → ShardGroup → Bool
-shard-below s g = less-shard (g .shard) s
+shard-below s g = ident-below s (held-shard g)
 
 abbrev pub shard-at : ShardIdent → ShardGroup → Bool
-shard-at s g = same-shard (g .shard) s
+shard-at s g = ident-at s (held-shard g)
 
 -- where a shard's group stands, or the place where it would go in
 abbrev pub shard-place : ShardIdent → ℕ → List ShardGroup → Place

@@ -4,16 +4,15 @@
 use mathlib.Core.Bool.{Bool, _&&_, _||_, false, not, true}
 use mathlib.Core.List.{List, [], _++_, _∷_}
 use mathlib.Core.Option.{Option, none, some}
-use Prim.Native.Nat.{_+_, suc, zero, ℕ}
+use Prim.Native.Nat.{_%_, _+_, _^_, suc, zero, ℕ}
 use lib.Dec.{eqb, leb, ltb}
-use lib.ListN.{getD, length, take}
+use lib.ListN.{getD, length, set, take}
 use Rattle.block_records.specs.declared.block_id.BlockId.{BlockId}
 use Rattle.block_records.specs.declared.block_id.ShardIdent.{ShardIdent}
 use Rattle.block_records.specs.declared.entry.BlockCacheEntry.{BlockCacheEntry}
 use Rattle.block_records.specs.declared.entry.MasterBlock.{MasterBlock}
 use Rattle.block_records.specs.declared.store_records.PrevIds.{PrevIds}
 use Rattle.blocks_cache.specs.declared.cache.Cache.{Cache}
-use Rattle.blocks_cache.specs.declared.cache.ShardGroup.{ShardGroup}
 use Rattle.blocks_cache.specs.declared.master_data.LastId.{LastId}
 use Rattle.blocks_cache.specs.declared.place.Place.{Place}
 use Rattle.blocks_cache.specs.declared.place.Place.the-variants.{At as place-at, Vacant as place-vacant}
@@ -22,19 +21,15 @@ use Rattle.blocks_cache.specs.declared.tail_ids.TailAnswer.the-variants.
 use Rattle.blocks_cache.specs.declared.tail_ids.TailIds.{TailIds}
 use Rattle.blocks_cache.specs.declared.tail_ids.TailIdsRow.{TailIdsRow}
 use Rattle.blocks_cache.specs.declared.tail_ids.TailRows.{TailRows}
-use Rattle.blocks_cache.specs.declared.tail_ids.TailStep.{TailStep}
 use Rattle.blocks_cache.specs.declared.tail_ids.TailWalk.{TailWalk}
-use Rattle.blocks_group.specs.declared.group.EntryAt.{EntryAt}
-use Rattle.blocks_group.specs.declared.search.Found.{Found}
-use Rattle.blocks_group.specs.declared.search.Found.the-variants.{At as found-at, Vacant as vacant-at}
-use Rattle.block_records.specs.BlockIds.{id-shard, key, less-id, less-shard, listed-prev-ids, listed-tops, same-shard}
+use Rattle.block_records.specs.BlockIds.{id-shard, less-id, less-shard, listed-prev-ids, listed-tops, same-shard}
 use Rattle.block_records.specs.EntryLayout.{pack-prev-ids}
-use Rattle.block_records.specs.Lists.{each, fold, padded, pick, put}
+use Rattle.block_records.specs.Lists.{each, find, fold, padded, pick, present, put}
 use Rattle.block_records.specs.Zeros.{zero-id, zero-prev-ids, zero-shard}
 use Rattle.blocks_cache.specs.CacheLayout.{HeldOutcome}
 use Rattle.blocks_cache.specs.Calls.{Answer, TailRow, refused, tail-ids}
 use Rattle.blocks_cache.specs.Extraction.{top-id}
-use Rattle.blocks_cache.specs.Lookups.{entry-in-groups}
+use Rattle.blocks_cache.specs.Lookups.{cached-block}
 use Rattle.blocks_cache.specs.MasterDataArrays.{pack-last, view-last}
 use Rattle.blocks_cache.specs.Places.{place}
 use Rattle.blocks_cache.specs.TailIdsOnce.{unknown-ids}
@@ -65,10 +60,6 @@ pack-tails ts = with-rows (each pack-tail ts)
 -- the rows below the count; a count past the 17 places lists them all
 abbrev pub listed-tails : TailRows → List TailIdsRow
 listed-tails t = take (t .count) (t .rows)
-
--- how many that are
-abbrev pub listed-row-count : ℕ → ℕ
-listed-row-count n = pick (ltb n 17) n 17
 
 -- what the rows say
 abbrev pub view-tails : TailRows → List TailRow
@@ -101,12 +92,19 @@ abbrev pub put-row : TailIdsRow → TailRows → TailRows
 put-row r t = pick (leb (length (put row-before r (listed-tails t))) 17) (with-rows (put row-before r (listed-tails t))) t
 
 -- Per shard the pair held is replaced if its id is absent, or if the new id is less.
+abbrev pub replaces-last : LastId → LastId → Bool
+replaces-last a h = not (h .present) || less-last a h
+
 abbrev pub replaces-row : TailIdsRow → TailIdsRow → Bool
-replaces-row r h = not (h .id .present) || less-last (r .id) (h .id)
+replaces-row r h = replaces-last (r .id) (h .id)
+
+-- the row in the place of another
+abbrev pub set-row : ℕ → TailIdsRow → TailRows → TailRows
+set-row k r t = record { rows = set (t .rows) k r; count = t .count }
 
 -- by what stands at the place of the row's shard
 abbrev pub row-held-at : TailIdsRow → Place → TailRows → TailRows
-row-held-at r (place-at k) t = pick (replaces-row r (getD (t .rows) k zero-tail)) (put-row r t) t
+row-held-at r (place-at k) t = pick (replaces-row r (getD (t .rows) k zero-tail)) (set-row k r t) t
 row-held-at r (place-vacant k) t = put-row r t
 
 -- the row held for its shard
@@ -123,27 +121,30 @@ cached-row i ps = record { shard = id-shard i; id = pack-last (some i); «prev_i
 abbrev pub missing-row : BlockId → TailIdsRow
 missing-row i = record { shard = id-shard i; id = pack-last none; «prev_ids» = pack-prev-ids (i ∷ []) }
 
+-- a row or none, and the previous ids that are queued
+pub record TailStep : Type 0 where
+  pub given : Bool
+  pub row : TailIdsRow
+  pub queued : PrevIds
+
 -- nothing is given, nothing queued
 abbrev pub no-step : TailStep
 no-step = record { given = false; row = zero-tail; queued = zero-prev-ids }
 
+abbrev pub cached-step : BlockId → PrevIds → TailStep
+cached-step i ps = record { given = true; row = cached-row i ps; queued = ps }
+
+abbrev pub missing-step : BlockId → TailStep
+missing-step i = record { given = true; row = missing-row i; queued = zero-prev-ids }
+
 -- A cached block gives (asked id, its previous ids) if taken as a top or naming M, and queues them. A missing top gives (absent, itself).
-abbrev pub found-step : ℕ → Bool → BlockId → Found → BlockCacheEntry → TailStep
-found-step m as-top i (found-at k) e =
-    pick (as-top || eqb (e .«ref_by_mc_seqno») m) (record { given = true; row = cached-row i (e .«prev_ids»); queued = e .«prev_ids» }) no-step
-found-step m as-top i (vacant-at k) e = pick as-top (record { given = true; row = missing-row i; queued = zero-prev-ids }) no-step
+abbrev pub found-step : ℕ → Bool → BlockId → Option BlockCacheEntry → TailStep
+found-step m as-top i (some b) = pick (as-top || eqb (b .«ref_by_mc_seqno») m) (cached-step i (b .«prev_ids»)) no-step
+found-step m as-top i none = pick as-top (missing-step i) no-step
 
 -- seqno 0 is skipped
-abbrev pub tail-step : ℕ → Bool → BlockId → EntryAt → TailStep
-tail-step m as-top i a = pick (eqb (i .seqno) 0) no-step (found-step m as-top i (a .found) (a .entry))
-
--- among so many groups
-unfoldable pub step-in : ℕ → List ShardGroup → ℕ → Bool → BlockId → TailStep
-step-in n gs m as-top i = tail-step m as-top i (entry-in-groups (key i) n gs)
-
--- in a cache
-abbrev pub step-of : Cache → ℕ → Bool → BlockId → TailStep
-step-of c m as-top i = step-in (c .«shard_count») (c .shards) m as-top i
+unfoldable pub step-of : Cache → ℕ → Bool → BlockId → TailStep
+step-of c m as-top i = pick (eqb (i .seqno) 0) no-step (found-step m as-top i (cached-block i c))
 
 -- the row, where one is given
 abbrev pub hold-given : TailStep → TailRows → TailRows
@@ -159,6 +160,14 @@ two-ids a takes-a b takes-b = pick takes-a (a ∷ pick takes-b (b ∷ []) []) (p
 unfoldable pub fresh-ids : List BlockId → List BlockId → List BlockId
 fresh-ids known ps = pick (leb (length known + length (unknown-ids known ps)) 256) (unknown-ids known ps) []
 
+-- whether a number is among others
+abbrev pub has-number : List ℕ → ℕ → Bool
+has-number ns n = present (find (λ (x : ℕ). eqb x n) ns)
+
+-- ids that are the same have the same fingerprint, so that most ids are known to be new without being compared
+unfoldable pub fingerprint : BlockId → ℕ
+fingerprint i = (i .prefix + i .seqno) % 2 ^ 64
+
 -- ===== the walk =====
 
 -- the rows so far, and all ids that were queued, each once
@@ -166,9 +175,9 @@ pub record TailState : Type 0 where
   pub tails : TailRows
   pub known : List BlockId
 
--- the ids first, zeros after them
+-- the ids first with their fingerprints, zeros after them
 abbrev pub pack-walk : TailState → TailWalk
-pack-walk w = record { tails = w .tails; ids = padded 258 zero-id (w .known); count = length (w .known) }
+pack-walk w = record { tails = w .tails; ids = padded 258 zero-id (w .known); fingerprints = padded 258 0 (each fingerprint (w .known)); count = length (w .known) }
 
 -- what stands in the arrays
 abbrev pub walk-state : TailWalk → TailState

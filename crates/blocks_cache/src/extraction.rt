@@ -2,34 +2,34 @@
 ghost use mathlib.Core.Path.{_≡_};
 ghost use mathlib.Core.Bool.{true};
 ghost use Prim.Native.Nat.{_<_, _≤_};
-ghost use lib.Dec.{ltb};
 ghost use lib.ListN.{take};
 ghost use Rattle.block_records.specs.BlockIds.{listed-tops};
 ghost use Rattle.block_records.specs.EntryLayout.{pack-tops};
-ghost use Rattle.block_records.specs.Lists.{each, filter, padded, pick};
+ghost use Rattle.block_records.specs.Lists.{filter, padded};
 ghost use Rattle.block_records.specs.Zeros.{zero-entry};
-ghost use Rattle.blocks_group.specs.GroupQueries.{first-place};
 ghost use Rattle.blocks_cache.specs.CacheLayout.{sound-cache, view};
 ghost use Rattle.blocks_cache.specs.Extraction.{starts, extraction-of};
-ghost use Rattle.blocks_cache.specs.ExtractionArrays.{waiting-list, held-starting-ids, held-shard, group-seqnos, shard-seqnos, no-seqnos};
-ghost use Rattle.blocks_cache.specs.ExtractionArrays.{is-ident, cached-at, block-place, without-seqno, refresh-seqnos};
+ghost use Rattle.blocks_cache.specs.ExtractionArrays.{waiting-list, held-starting-ids, without-seqno, refresh-seqnos};
 ghost use Rattle.blocks_cache.specs.ExtractionArrays.{compact-group, compact-shard, compact-shards, backwards, view-master, pack-extraction};
 ghost use Rattle.blocks_group.specs.GroupRules.{at-seqno};
 ghost use Rattle.blocks_cache.specs.Model.{first-applied};
 ghost use Rattle.blocks_cache.specs.Subgraphs.{hand-out, no-extract, plain-extract, pop-plain, move-applied-start, request-seqno, sync-plain};
 use crate::cache::Cache;
 use crate::cache::ShardGroup;
+use crate::lookup::BlockPlace;
+use crate::lookup::EntrySeqno;
+use crate::lookup::GroupSeqnos;
+use crate::lookup::lookup;
+use crate::lookup::shard_seqnos;
 use crate::master_data::AppliedRange;
 use crate::master_data::MasterData;
 use crate::master_data::drop_ids_below;
 use crate::master_data::move_range_start;
+use crate::place::listed_count;
+use crate::shards::shard_idents;
 use crate::soundness::sound_cache;
 use block_records::block_id::BlockId;
-use block_records::block_id::ShardIdent;
-use block_records::block_id::id_shard;
-use block_records::block_id::same_shard;
 use block_records::block_id::zero_id;
-use block_records::block_id::zero_shard;
 use block_records::entry::BlockCacheEntry;
 use block_records::entry::MasterBlock;
 use block_records::entry::is_applied;
@@ -42,7 +42,6 @@ use blocks_group::group::Group;
 use blocks_group::group::MasterGroup;
 use blocks_group::group::master_at;
 use blocks_group::group::remove_master;
-use blocks_group::mark::Mark;
 use blocks_group::mark::refreshed_mark;
 use blocks_group::queries::applied_above;
 use blocks_group::queries::first_applied_master;
@@ -58,35 +57,10 @@ pub(crate) struct Extraction {
     pub taken: usize,
 }
 
-// An entry's seqno, and whether the entry is still cached.
-pub(crate) struct EntrySeqno {
-    pub seqno: u32,
-    pub cached: bool,
-}
-
-// The seqnos of a group's entries, in their places, and its mark.
-pub(crate) struct GroupSeqnos {
-    pub entries: [EntrySeqno; 16],
-    pub mark: Mark,
-}
-
 // The ids that wait, with those that were taken before them.
 pub(crate) struct WaitingList {
     pub ids: [BlockId; 264],
     pub count: usize,
-}
-
-// Where a block is cached: the place of its group, and its own in it.
-pub(crate) enum BlockPlace {
-    At(usize, usize),
-    Absent,
-}
-
-// The number of places below a count, of those that there are.
-fn listed_count(count: usize, places: usize) -> usize
-    ensures { λ r. ⌜ r ≡ pick (ltb count places) count places ⌝ }
-{
-    if count < places { count } else { places }
 }
 
 // ===== the starting ids =====
@@ -127,115 +101,6 @@ fn starting_ids(zerostate: u32, tops: TopBlocks) -> WaitingList
         i += 1;
     }
     WaitingList { ids, count }
-}
-
-// ===== the seqnos of the groups =====
-
-fn no_seqnos() -> GroupSeqnos
-    ensures { λ r. ⌜ r ≡ no-seqnos ⌝ }
-{
-    let zero = EntrySeqno {
-        seqno: 0,
-        cached: false,
-    };
-    GroupSeqnos {
-        entries: [zero; 16],
-        mark: Mark::Absent,
-    }
-}
-
-fn group_seqnos(group: Group) -> GroupSeqnos
-    ensures { λ r. ⌜ r ≡ group-seqnos group ⌝ }
-{
-    let zero = EntrySeqno {
-        seqno: 0,
-        cached: false,
-    };
-    let mut entries = [zero; 16];
-    let count = listed_count(group.count, 16);
-    let mut i: usize = 0;
-    while i < count {
-        entries[i] = EntrySeqno {
-            seqno: group.entries[i].block_id.seqno,
-            cached: true,
-        };
-        i += 1;
-    }
-    let mark = group.mark;
-    GroupSeqnos { entries, mark }
-}
-
-fn shard_seqnos(shards: [ShardGroup; 8]) -> [GroupSeqnos; 8]
-    ensures { λ r. ⌜ r ≡ each shard-seqnos shards ⌝ }
-{
-    let zero = no_seqnos();
-    let mut out = [zero; 8];
-    let mut i: usize = 0;
-    while i < 8 {
-        let held = shards[i];
-        out[i] = group_seqnos(held.group);
-        i += 1;
-    }
-    out
-}
-
-// The groups' shards, in their places.
-fn shard_idents(shards: [ShardGroup; 8]) -> [ShardIdent; 8]
-    ensures { λ r. ⌜ r ≡ each held-shard shards ⌝ }
-{
-    let zero = zero_shard();
-    let mut out = [zero; 8];
-    let mut i: usize = 0;
-    while i < 8 {
-        let held = shards[i];
-        let shard = held.shard;
-        out[i] = shard;
-        i += 1;
-    }
-    out
-}
-
-// ===== the lookup, by shard and seqno alone =====
-
-fn shard_place(idents: [ShardIdent; 8], shard: ShardIdent) -> Found
-    ensures { λ r. ⌜ r ≡ first-place (is-ident shard) 0 idents ⌝ }
-{
-    let mut i: usize = 0;
-    while i < 8 {
-        let x = idents[i];
-        if same_shard(x, shard) {
-            return Found::At(i);
-        }
-        i += 1;
-    }
-    Found::Vacant(i)
-}
-
-fn seqno_place(group: GroupSeqnos, seqno: u32) -> Found
-    ensures { λ r. ⌜ r ≡ first-place (cached-at seqno) 0 (group .entries) ⌝ }
-{
-    let mut i: usize = 0;
-    while i < 16 {
-        let x = group.entries[i];
-        if x.cached & (x.seqno == seqno) {
-            return Found::At(i);
-        }
-        i += 1;
-    }
-    Found::Vacant(i)
-}
-
-fn lookup(idents: [ShardIdent; 8], seqnos: [GroupSeqnos; 8], id: BlockId) -> BlockPlace
-    ensures { λ r. ⌜ r ≡ block-place id idents seqnos ⌝ }
-{
-    let shard = id_shard(id);
-    let Found::At(at) = shard_place(idents, shard) else {
-        return BlockPlace::Absent;
-    };
-    let Found::At(entry) = seqno_place(seqnos[at], id.seqno) else {
-        return BlockPlace::Absent;
-    };
-    BlockPlace::At(at, entry)
 }
 
 // ===== a block leaves its group =====

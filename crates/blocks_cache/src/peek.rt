@@ -1,21 +1,25 @@
 // Document 01, Whole cache: Peek.
+ghost use mathlib.Core.Bool.{true};
 ghost use mathlib.Core.Path.{_≡_};
-ghost use Rattle.block_records.specs.BlockIds.{listed-tops};
+ghost use Rattle.block_records.specs.BlockIds.{key, listed-tops};
 ghost use Rattle.block_records.specs.Lists.{filter};
 ghost use Rattle.blocks_cache.specs.Calls.{peek, unlent};
-ghost use Rattle.blocks_cache.specs.CacheLayout.{call-on};
+ghost use Rattle.blocks_cache.specs.CacheLayout.{call-on, sound-cache};
 ghost use Rattle.blocks_cache.specs.Extraction.{starts};
-ghost use Rattle.blocks_cache.specs.Peeks.{held-tops, pack-seen, pack-view, peek-held, peek-outcome, top-row-in, zero-peek, zero-row, zeroed-peek};
+ghost use Rattle.blocks_cache.specs.Peeks.{held-tops, pack-view, peek-held, peek-outcome, zero-peek, zero-row, zeroed-peek};
+ghost use Rattle.blocks_cache.specs.declared.peek.MissingTop.the-variants.{At as missing-at};
 use crate::cache::Cache;
-use crate::cache::ShardGroup;
-use crate::lookup::entry_in_groups;
+use crate::extraction::starting_items;
+use crate::lookup::BlockPlace;
+use crate::lookup::lookup;
+use crate::lookup::shard_seqnos;
+use crate::shards::shard_idents;
 use crate::soundness::sound_cache;
 use block_records::block_id::BlockId;
 use block_records::block_id::BlockIdShort;
 use block_records::block_id::key;
 use block_records::block_id::zero_id;
 use block_records::questions::seqno_fits;
-use block_records::top_block::TopBlock;
 use block_records::top_block::TopBlocks;
 use blocks_group::queries::first_applied_master;
 use blocks_group::search::Found;
@@ -46,12 +50,6 @@ pub struct Peek {
     pub tops: [PeekRow; 8],
     pub count: usize,
     pub missing: MissingTop,
-}
-
-// A top's row, where it is cached naming the master; else zeros.
-pub(crate) struct SeenTop {
-    pub seen: bool,
-    pub row: PeekRow,
 }
 
 // The tops' rows, zeros after them, and the one that is missing.
@@ -86,69 +84,45 @@ fn zero_peek(answer: PeekAnswer) -> Peek
     }
 }
 
-// Updated, with reference above the zerostate.
-fn is_starting(item: TopBlock, zerostate: u32) -> bool
-    ensures { λ r. ⌜ r ≡ starts zerostate item ⌝ }
+// The first top that isn't cached naming the master ends the view.
+fn ended_at(rows: [PeekRow; 8], count: usize, id: BlockId) -> TopRows
+    ensures { λ r. ⌜ r ≡ record { rows = rows; count = count; gap = missing-at (key id) } ⌝ }
 {
-    item.updated & (zerostate < item.ref_by_mc_seqno)
+    let short = key(id);
+    let gap = MissingTop::At(short);
+    TopRows { rows, count, gap }
 }
 
-// The row of a top that is cached naming the master; id and reference are the item's.
-fn top_row(shards: [ShardGroup; 8], count: usize, seqno: u32, item: TopBlock) -> SeenTop
-    ensures { λ r. ⌜ r ≡ pack-seen (top-row-in seqno count shards item) ⌝ }
-{
-    let short = key(item.block_id);
-    let at = entry_in_groups(shards, count, short);
-    let found = at.found;
-    let Found::At(_) = found else {
-        let row = zero_row();
-        return SeenTop { seen: false, row };
-    };
-    let entry = at.entry;
-    if entry.ref_by_mc_seqno != seqno {
-        let row = zero_row();
-        return SeenTop { seen: false, row };
-    }
-    let id = item.block_id;
-    let row = PeekRow {
-        block_id: id,
-        ref_by_mc_seqno: item.ref_by_mc_seqno,
-        payload: entry.payload,
-    };
-    SeenTop { seen: true, row }
-}
-
-// The starting items in order, as long as each is cached naming the master.
+// The starting items in order, as long as each is cached naming the master; a row's id and reference are the item's.
 fn view_tops(cache: Cache, seqno: u32, tops: TopBlocks) -> TopRows
+    requires { ⌜ sound-cache cache ≡ true ⌝ }
     ensures { λ r. ⌜ r ≡ pack-view (held-tops seqno cache (filter (starts (cache .«zerostate_mc_seqno»)) (listed-tops tops))) ⌝ }
 {
+    let starting = starting_items(cache.zerostate_mc_seqno, tops);
     let shards = cache.shards;
+    let idents = shard_idents(shards);
+    let seqnos = shard_seqnos(shards);
     let zero = zero_row();
     let mut rows = [zero; 8];
     let mut count: usize = 0;
-    let items = tops.items;
-    let listed = tops.count;
-    let mut i: usize = 0;
-    while i < 8 {
-        if listed <= i {
-            let gap = MissingTop::Absent;
-            return TopRows { rows, count, gap };
+    while count < starting.count {
+        let item = starting.items[count];
+        let id = item.block_id;
+        let BlockPlace::At(at, place) = lookup(idents, seqnos, id) else {
+            return ended_at(rows, count, id);
+        };
+        let held = cache.shards[at];
+        let group = held.group;
+        let block = group.entries[place];
+        if block.ref_by_mc_seqno != seqno {
+            return ended_at(rows, count, id);
         }
-        let item = items[i];
-        if !is_starting(item, cache.zerostate_mc_seqno) {
-            i += 1;
-            continue;
-        }
-        let top = top_row(shards, cache.shard_count, seqno, item);
-        if !top.seen {
-            let short = key(item.block_id);
-            let gap = MissingTop::At(short);
-            return TopRows { rows, count, gap };
-        }
-        let row = top.row;
-        rows[count] = row;
+        rows[count] = PeekRow {
+            block_id: id,
+            ref_by_mc_seqno: item.ref_by_mc_seqno,
+            payload: block.payload,
+        };
         count += 1;
-        i += 1;
     }
     let gap = MissingTop::Absent;
     TopRows { rows, count, gap }
@@ -156,6 +130,7 @@ fn view_tops(cache: Cache, seqno: u32, tops: TopBlocks) -> TopRows
 
 // The lowest applied master at or above a seqno, and its starting items.
 fn peek_master(cache: Cache, from: u32) -> Peek
+    requires { ⌜ sound-cache cache ≡ true ⌝ }
     ensures { λ r. ⌜ r ≡ peek-held from cache ⌝ }
 {
     let at = first_applied_master(cache.masters, from);

@@ -3,34 +3,45 @@ ghost use mathlib.Core.Path.{_≡_};
 ghost use Prim.Native.Nat.{_≤_, _<_};
 ghost use lib.ListN.{take};
 ghost use Rattle.block_records.specs.Arrays.{spliced};
-ghost use Rattle.blocks_cache.specs.ShardArrays.{listed-shards, shard-place, shards-over, put-shard};
+ghost use Rattle.block_records.specs.Lists.{each};
+ghost use Rattle.blocks_cache.specs.ShardArrays.{held-shard, ident-place, shard-place, shards-over, put-shard};
 use crate::cache::ShardGroup;
 use crate::place::Place;
+use crate::place::listed_count;
 use block_records::block_id::ShardIdent;
 use block_records::block_id::less_shard;
 use block_records::block_id::same_shard;
+use block_records::block_id::zero_shard;
 
 pub struct Shards {
     pub groups: [ShardGroup; 8],
     pub count: usize,
 }
 
-// The number of places below a count.
-fn listed_shards(count: usize) -> usize
-    ensures { λ r. ⌜ r ≡ listed-shards count ⌝ }
+// The groups' shards, in their places.
+pub(crate) fn shard_idents(shards: [ShardGroup; 8]) -> [ShardIdent; 8]
+    ensures { λ r. ⌜ r ≡ each held-shard shards ⌝ }
 {
-    if count < 8 { count } else { 8 }
+    let zero = zero_shard();
+    let mut out = [zero; 8];
+    let mut i: usize = 0;
+    while i < 8 {
+        let held = shards[i];
+        let shard = held.shard;
+        out[i] = shard;
+        i += 1;
+    }
+    out
 }
 
-// Where a shard's group stands, or the place where it would go in.
-pub fn find_shard(groups: [ShardGroup; 8], count: usize, shard: ShardIdent) -> Place
-    ensures { λ r. ⌜ r ≡ shard-place shard count groups ⌝ }
+// Where a shard stands among the first `count`, or the place where it would go in.
+pub(crate) fn ident_place(idents: [ShardIdent; 8], count: usize, shard: ShardIdent) -> Place
+    ensures { λ r. ⌜ r ≡ ident-place shard count idents ⌝ }
 {
-    let listed = listed_shards(count);
+    let listed = listed_count(count, 8);
     let mut i: usize = 0;
     while i < listed {
-        let g = groups[i];
-        let x = g.shard;
+        let x = idents[i];
         if !less_shard(x, shard) {
             if same_shard(x, shard) {
                 return Place::At(i);
@@ -40,6 +51,14 @@ pub fn find_shard(groups: [ShardGroup; 8], count: usize, shard: ShardIdent) -> P
         i += 1;
     }
     Place::Vacant(i)
+}
+
+// Where a shard's group stands, or the place where it would go in.
+pub fn find_shard(groups: [ShardGroup; 8], count: usize, shard: ShardIdent) -> Place
+    ensures { λ r. ⌜ r ≡ shard-place shard count groups ⌝ }
+{
+    let idents = shard_idents(groups);
+    ident_place(idents, count, shard)
 }
 
 // The groups from a place on moved one place further, and the given one put there.
@@ -69,7 +88,7 @@ pub fn put_shard(groups: [ShardGroup; 8], count: usize, group: ShardGroup) -> Sh
         Place::At(at) => {
             let mut out = groups;
             out[at] = group;
-            let listed = listed_shards(count);
+            let listed = listed_count(count, 8);
             Shards {
                 groups: out,
                 count: listed,

@@ -9,24 +9,26 @@ ghost use Rattle.block_records.specs.BlockIds.{listed-prev-ids, listed-tops};
 ghost use Rattle.block_records.specs.EntryLayout.{pack-prev-ids};
 ghost use Rattle.block_records.specs.Lists.{each, fold};
 ghost use Rattle.blocks_cache.specs.Calls.{read-tail-ids, unlent};
-ghost use Rattle.blocks_cache.specs.CacheLayout.{call-on};
+ghost use Rattle.blocks_cache.specs.CacheLayout.{call-on, sound-cache};
 ghost use Rattle.blocks_cache.specs.Extraction.{top-id};
 ghost use Rattle.blocks_cache.specs.TailIdsOnce.{knows};
-ghost use Rattle.blocks_cache.specs.TailArrays.{zero-tail, with-rows, listed-tails, listed-row-count, row-place, less-last, hold-row};
-ghost use Rattle.blocks_cache.specs.TailArrays.{cached-row, missing-row, no-step, tail-step, step-in, hold-given, two-ids, fresh-ids};
+ghost use Rattle.blocks_cache.specs.TailArrays.{zero-tail, with-rows, listed-tails, row-place, less-last, replaces-last, hold-row};
+ghost use Rattle.blocks_cache.specs.TailArrays.{cached-row, missing-row, two-ids, fresh-ids, fingerprint, has-number};
 ghost use Rattle.blocks_cache.specs.TailArrays.{pack-walk, walk-state, first-state, take-tail-id, take-queued, block-tails, no-tails, read-tails};
 ghost use Rattle.blocks_cache.specs.TailArrays.{tail-outcome, zeroed-tails};
 use crate::cache::Cache;
-use crate::cache::ShardGroup;
-use crate::lookup::entry_in_groups;
+use crate::lookup::BlockPlace;
+use crate::lookup::lookup;
+use crate::lookup::shard_seqnos;
 use crate::master_data::LastId;
 use crate::place::Place;
+use crate::place::listed_count;
+use crate::shards::shard_idents;
 use crate::soundness::sound_cache;
 use block_records::block_id::BlockId;
 use block_records::block_id::BlockIdShort;
 use block_records::block_id::ShardIdent;
 use block_records::block_id::id_shard;
-use block_records::block_id::key;
 use block_records::block_id::less_id;
 use block_records::block_id::less_shard;
 use block_records::block_id::same_id;
@@ -36,9 +38,9 @@ use block_records::block_id::zero_shard;
 use block_records::entry::MasterBlock;
 use block_records::questions::key_fits;
 use block_records::store_records::PrevIds;
+use block_records::store_records::stored_prev_ids;
 use block_records::store_records::zero_prev_ids;
 use block_records::top_block::TopBlocks;
-use blocks_group::group::EntryAt;
 use blocks_group::group::master_at;
 use blocks_group::search::Found;
 
@@ -55,17 +57,11 @@ pub struct TailRows {
     pub count: usize,
 }
 
-// What an id of the walk gives: a row or none, and the previous ids that it queues.
-pub(crate) struct TailStep {
-    pub given: bool,
-    pub row: TailIdsRow,
-    pub queued: PrevIds,
-}
-
-// The rows so far, and the ids that were queued, each once: at most 256, and two places more, so that two can always be written.
+// The rows so far, and the ids that were queued, each once, with their fingerprints: at most 256, and two places more, so that two can always be written.
 pub(crate) struct TailWalk {
     pub tails: TailRows,
     pub ids: [BlockId; 258],
+    pub fingerprints: [u64; 258],
     pub count: usize,
 }
 
@@ -99,18 +95,11 @@ fn zero_tail() -> TailIdsRow
     }
 }
 
-// The number of places below a count.
-fn listed_row_count(count: usize) -> usize
-    ensures { λ r. ⌜ r ≡ listed-row-count count ⌝ }
-{
-    if count < 17 { count } else { 17 }
-}
-
 // Where a shard's row stands, or the place where it would go in.
 fn row_place(tails: TailRows, shard: ShardIdent) -> Place
     ensures { λ r. ⌜ r ≡ row-place shard tails ⌝ }
 {
-    let listed = listed_row_count(tails.count);
+    let listed = listed_count(tails.count, 17);
     let mut i: usize = 0;
     while i < listed {
         let row = tails.rows[i];
@@ -133,7 +122,7 @@ fn put_row_at(tails: TailRows, at: usize, from: usize, row: TailIdsRow) -> TailR
 {
     let zero = zero_tail();
     let mut rows = [zero; 17];
-    let listed = listed_row_count(tails.count);
+    let listed = listed_count(tails.count, 17);
     let count = at + 1 + (listed - from);
     let mut j: usize = 0;
     while j < count {
@@ -157,6 +146,14 @@ fn less_last(a: LastId, b: LastId) -> bool
     b.present & (!a.present | less)
 }
 
+// The pair held is replaced if its id is absent, or if the new id is less.
+fn replaces_row(id: LastId, held: LastId) -> bool
+    ensures { λ r. ⌜ r ≡ replaces-last id held ⌝ }
+{
+    let less = less_last(id, held);
+    !held.present | less
+}
+
 // The pair held for the row's shard is replaced if its id is absent, or if the new id is less. Where 17 are listed and none is of the shard, nothing changes.
 fn hold_row(tails: TailRows, row: TailIdsRow) -> TailRows
     ensures { λ r. ⌜ r ≡ hold-row row tails ⌝ }
@@ -165,9 +162,10 @@ fn hold_row(tails: TailRows, row: TailIdsRow) -> TailRows
     match place {
         Place::At(at) => {
             let held = tails.rows[at];
-            let less = less_last(row.id, held.id);
-            if !held.id.present | less {
-                return put_row_at(tails, at, at + 1, row);
+            if replaces_row(row.id, held.id) {
+                let mut out = tails;
+                out.rows[at] = row;
+                return out;
             }
             tails
         }
@@ -180,7 +178,7 @@ fn hold_row(tails: TailRows, row: TailIdsRow) -> TailRows
     }
 }
 
-// ===== what an id gives and queues =====
+// ===== what an id gives =====
 
 // Of a cached block: the asked id and its previous ids.
 fn cached_row(id: BlockId, prev_ids: PrevIds) -> TailIdsRow
@@ -213,77 +211,6 @@ fn missing_row(id: BlockId) -> TailIdsRow
         id,
         prev_ids,
     }
-}
-
-fn no_step() -> TailStep
-    ensures { λ r. ⌜ r ≡ no-step ⌝ }
-{
-    let row = zero_tail();
-    let queued = zero_prev_ids();
-    TailStep {
-        given: false,
-        row,
-        queued,
-    }
-}
-
-// What a block that was looked up gives, if taken as a top or naming the master, and queues; a missing top gives itself. Seqno 0 is skipped.
-fn tail_step(mc_seqno: u32, as_top: bool, id: BlockId, at: EntryAt) -> TailStep
-    ensures { λ r. ⌜ r ≡ tail-step «mc_seqno» «as_top» id at ⌝ }
-{
-    if id.seqno == 0 {
-        return no_step();
-    }
-    let found = at.found;
-    let Found::At(_) = found else {
-        if as_top {
-            let row = missing_row(id);
-            let queued = zero_prev_ids();
-            return TailStep {
-                given: true,
-                row,
-                queued,
-            };
-        }
-        return no_step();
-    };
-    let entry = at.entry;
-    let named = entry.ref_by_mc_seqno == mc_seqno;
-    if as_top | named {
-        let queued = entry.prev_ids;
-        let row = cached_row(id, queued);
-        return TailStep {
-            given: true,
-            row,
-            queued,
-        };
-    }
-    no_step()
-}
-
-// What an id gives and queues, by the groups of a cache.
-fn step_of(
-    shards: [ShardGroup; 8],
-    count: usize,
-    mc_seqno: u32,
-    as_top: bool,
-    id: BlockId,
-) -> TailStep
-    ensures { λ r. ⌜ r ≡ step-in count shards «mc_seqno» «as_top» id ⌝ }
-{
-    let short = key(id);
-    let at = entry_in_groups(shards, count, short);
-    tail_step(mc_seqno, as_top, id, at)
-}
-
-// The row held, if one is given.
-fn hold_given(tails: TailRows, step: TailStep) -> TailRows
-    ensures { λ r. ⌜ r ≡ hold-given step tails ⌝ }
-{
-    if step.given {
-        return hold_row(tails, step.row);
-    }
-    tails
 }
 
 // ===== the ids that wait =====
@@ -345,6 +272,41 @@ fn fresh_ids(ids: [BlockId; 258], count: usize, prev: PrevIds) -> PrevIds
     zero_prev_ids()
 }
 
+// Ids that are the same have the same fingerprint.
+fn fingerprint(id: BlockId) -> u64
+    ensures { λ r. ⌜ r ≡ fingerprint id ⌝ }
+{
+    std::num::wrapping_add_u64(id.prefix, id.seqno as u64)
+}
+
+// Whether a number is among others.
+fn has_number(numbers: &[u64], number: u64) -> bool
+    ensures { λ r. ⌜ r ≡ has-number (now (numbers .entry)) number ⌝ }
+{
+    let mut has = false;
+    let mut i = 0;
+    while i < numbers.len() {
+        has = has | (numbers[i] == number);
+        i += 1;
+    }
+    has
+}
+
+// The same as `fresh_ids`: most ids are known to be new by their fingerprints, so that none is compared.
+fn next_ids(ids: [BlockId; 258], fingerprints: &[u64], count: usize, prev: PrevIds) -> PrevIds
+    requires { ⌜ now fingerprints ≡ each fingerprint (take count ids) ⌝ }
+    ensures { λ r. ⌜ r ≡ pack-prev-ids (fresh-ids (take count ids) (listed-prev-ids prev)) ⌝ }
+{
+    let first = fingerprint(prev.ids[0]);
+    let second = fingerprint(prev.ids[1]);
+    let a = has_number(fingerprints, first);
+    let b = has_number(fingerprints, second);
+    if a | b | (first == second) | (254 < count) {
+        return fresh_ids(ids, count, prev);
+    }
+    stored_prev_ids(prev)
+}
+
 // ===== the walk =====
 
 // One row, and zeros after it.
@@ -357,59 +319,103 @@ fn one_row(row: TailIdsRow) -> TailRows
     TailRows { rows, count: 1 }
 }
 
-// All tops in turn, after the master's own row.
+// All tops in turn, after the master's own row. A missing top gives itself; seqno 0 is skipped.
 fn take_tops(cache: Cache, mc_seqno: u32, first: TailIdsRow, tops: TopBlocks) -> TailWalk
+    requires { ⌜ sound-cache cache ≡ true ⌝ }
     ensures { λ r. ⌜ r ≡ pack-walk (fold (take-tail-id cache «mc_seqno» true) (first-state first) (each top-id (listed-tops tops))) ⌝ }
 {
     let shards = cache.shards;
+    let idents = shard_idents(shards);
+    let seqnos = shard_seqnos(shards);
     let mut tails = one_row(first);
     let zero = zero_id();
     let mut ids = [zero; 258];
+    let mut fingerprints = [0u64; 258];
     let mut count: usize = 0;
-    let items = tops.items;
-    let listed = tops.count;
+    let listed = listed_count(tops.count, 8);
     let mut i: usize = 0;
-    while i < 8 {
-        if listed <= i {
-            return TailWalk { tails, ids, count };
+    while i < listed {
+        let item = tops.items[i];
+        let id = item.block_id;
+        i += 1;
+        if id.seqno == 0 {
+            continue;
         }
-        let item = items[i];
-        let step = step_of(shards, cache.shard_count, mc_seqno, true, item.block_id);
-        tails = hold_given(tails, step);
-        let fresh = fresh_ids(ids, count, step.queued);
+        let BlockPlace::At(at, place) = lookup(idents, seqnos, id) else {
+            let row = missing_row(id);
+            tails = hold_row(tails, row);
+            continue;
+        };
+        let held = cache.shards[at];
+        let group = held.group;
+        let block = group.entries[place];
+        let row = cached_row(id, block.prev_ids);
+        tails = hold_row(tails, row);
+        let fresh = next_ids(ids, &fingerprints[..count], count, block.prev_ids);
         ids[count] = fresh.ids[0];
         ids[count + 1] = fresh.ids[1];
+        fingerprints[count] = fingerprint(fresh.ids[0]);
+        fingerprints[count + 1] = fingerprint(fresh.ids[1]);
         count += fresh.count;
-        i += 1;
     }
-    TailWalk { tails, ids, count }
+    TailWalk {
+        tails,
+        ids,
+        fingerprints,
+        count,
+    }
 }
 
-// Then each id that was queued, first in, first out.
+// Then each id that was queued, first in, first out. A cached block that names the master gives its row, held in place where its shard has one.
 fn take_queued(cache: Cache, mc_seqno: u32, walk: TailWalk) -> TailRows
-    requires { ⌜ (walk .count ≤ 256) × (walk ≡ pack-walk (walk-state walk)) ⌝ }
+    requires { ⌜ (sound-cache cache ≡ true) × (walk .count ≤ 256) × (walk ≡ pack-walk (walk-state walk)) ⌝ }
     ensures { λ r. ⌜ r ≡ take-queued 256 cache «mc_seqno» 0 (walk-state walk) .tails ⌝ }
 {
     let shards = cache.shards;
+    let idents = shard_idents(shards);
+    let seqnos = shard_seqnos(shards);
     let mut tails = walk.tails;
     let mut ids = walk.ids;
+    let mut fingerprints = walk.fingerprints;
     let mut count = walk.count;
     let mut j: usize = 0;
     while j < count {
         let id = ids[j];
-        let step = step_of(shards, cache.shard_count, mc_seqno, false, id);
-        tails = hold_given(tails, step);
-        let fresh = fresh_ids(ids, count, step.queued);
+        j += 1;
+        if id.seqno == 0 {
+            continue;
+        }
+        let BlockPlace::At(at, place) = lookup(idents, seqnos, id) else {
+            continue;
+        };
+        let held = cache.shards[at];
+        let group = held.group;
+        let block = group.entries[place];
+        if block.ref_by_mc_seqno != mc_seqno {
+            continue;
+        }
+        let fresh = next_ids(ids, &fingerprints[..count], count, block.prev_ids);
         ids[count] = fresh.ids[0];
         ids[count + 1] = fresh.ids[1];
+        fingerprints[count] = fingerprint(fresh.ids[0]);
+        fingerprints[count + 1] = fingerprint(fresh.ids[1]);
         count += fresh.count;
-        j += 1;
+        let row = cached_row(id, block.prev_ids);
+        let Place::At(at) = row_place(tails, row.shard) else {
+            tails = hold_row(tails, row);
+            continue;
+        };
+        let old = tails.rows[at];
+        if replaces_row(row.id, old.id) {
+            tails.rows[at] = row;
+        }
     }
     tails
 }
 
 // The rows of a master block.
 fn block_tails(cache: Cache, block: MasterBlock) -> TailRows
+    requires { ⌜ sound-cache cache ≡ true ⌝ }
     ensures { λ r. ⌜ r ≡ block-tails block cache ⌝ }
 {
     let entry = block.entry;
@@ -434,6 +440,7 @@ fn no_tails(answer: TailAnswer) -> TailIds
 
 // At or below the zerostate there is no row; else the master at that seqno is asked for, and its rows.
 fn read_tails(cache: Cache, seqno: u32) -> TailIds
+    requires { ⌜ sound-cache cache ≡ true ⌝ }
     ensures { λ r. ⌜ r ≡ read-tails seqno cache ⌝ }
 {
     if seqno <= cache.zerostate_mc_seqno {

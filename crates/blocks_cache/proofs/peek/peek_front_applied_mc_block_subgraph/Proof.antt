@@ -26,7 +26,7 @@ returns-2 : tie.Need-returns-2
 returns-2 c = let s = c .before .before .before .before .before in peek-refuses (s .args .cache) (s .args .from) _ (sym (c .before .before .before .before .sound-cache .ensures) ∙ not-false (c .before .before .before .before .sound-cache .result) (c .before .before .before .if1 .left)) (sym (c .before .before .seqno-fits .ensures) ∙ not-true (c .before .before .seqno-fits .result) (c .before .if2 .taken)) (c .zero-peek2 .ensures)
 
 peek-master-requires : tie.Need-peek-master-requires
-peek-master-requires c κs = search needs
+peek-master-requires c κs = sym (c .before .before .before .sound-cache .ensures) ∙ not-false (c .before .before .before .sound-cache .result) (c .before .before .if1 .left)
 
 returns-3 : tie.Need-returns-3
 returns-3 c = let s = c .before .before .before .before .before in peek-is (s .args .cache) (s .args .from) _ (sym (c .before .before .before .before .sound-cache .ensures) ∙ not-false (c .before .before .before .before .sound-cache .result) (c .before .before .before .if1 .left)) (sym (c .before .before .seqno-fits .ensures) ∙ not-false (c .before .before .seqno-fits .result) (c .before .if2 .left)) (c .peek-master .ensures)

@@ -29,8 +29,8 @@ array-set-from-out c =
     let s = c .before .before .before .before in
     shard-listed (s .args .groups) (long s) (s .args .count) (s .args .group) _ (sym (c .before .before .before .find-shard .ensures) ∙ c .before .place .given .1)
 
-listed-shards-requires : tie.Need-listed-shards-requires
-listed-shards-requires c κs = search needs
+listed-count-requires : tie.Need-listed-count-requires
+listed-count-requires c κs = search needs
 
 enum-known-place-2 : tie.Need-enum-known-place-2
 enum-known-place-2 c = search needs
@@ -52,7 +52,7 @@ returns-2 : tie.Need-returns-2
 returns-2 c =
     let p = c .before .before in
     let s = p .before .before .before in
-    put-shard-replaces (s .args .groups) (long s) (s .args .count) (s .args .group) _ (sym (p .before .before .find-shard .ensures) ∙ p .place .given .1) _ (c .listed-shards .ensures)
+    put-shard-replaces (s .args .groups) (long s) (s .args .count) (s .args .group) _ (sym (p .before .before .find-shard .ensures) ∙ p .place .given .1) _ (c .listed-count .ensures)
 
 returns-3 : tie.Need-returns-3
 returns-3 c =
@@ -68,7 +68,7 @@ put-shard-spec =
     enum-known-place
     mul-out
     array-set-from-out
-    listed-shards-requires
+    listed-count-requires
     enum-known-place-2
     insert-shard-requires
     returns

@@ -13,7 +13,10 @@ take-tops-requires : tie.Need-take-tops-requires
 take-tops-requires c κs = search needs
 
 take-queued-requires : tie.Need-take-queued-requires
-take-queued-requires c κs = let s = c .before .before .before .before .before in tops-laid (s .args .cache) (s .args .block .entry .«block_id» .seqno) (c .before .cached-row .result) (s .args .block .tops) (c .take-tops .result) (c .take-tops .ensures)
+take-queued-requires c κs =
+    let s = c .before .before .before .before .before in
+    let l = tops-laid (s .args .cache) (s .args .block .entry .«block_id» .seqno) (c .before .cached-row .result) (s .args .block .tops) (c .take-tops .result) (c .take-tops .ensures) in
+    (s .pre, l .0, l .1)
 
 returns : tie.Need-returns
 returns c =

@@ -2,10 +2,10 @@
 -- Assumes nothing.
 use mathlib.Core.Path.{_≡_, sym, _∙_}
 use native.Mathlib.Omega.{arith}
-use borrow.Author.Needs.{needs}
 use lib.ListN.{length}
 use Rattle.block_records.proofs.LoopLaws.{length-mapped}
-use Rattle.blocks_cache.proofs.TailArrayLaws.{hold-full, hold-inserts, hold-keeps, hold-replaces, row-inserts, row-listed, row-replaces}
+use Rattle.blocks_cache.proofs.TailArrayLaws.{hold-full, hold-inserts, hold-keeps, hold-replaces, row-inserts, row-listed}
+use borrow.Author.Needs.{needs}
 use Rattle.blocks_cache.proofs.tail_ids.hold_row.Statement.{statement}
 use Rattle.blocks_cache.proofs.tail_ids.hold_row.Tie as tie
 
@@ -19,57 +19,37 @@ enum-known-place : tie.Need-enum-known-place
 enum-known-place c = search needs
 
 mul-held : tie.Need-mul-held
-mul-held c =
-    let s = c .before .before .before .before in
-    let l = row-listed (s .args .t1) (long s) (s .args .row) _ (sym (c .before .before .before .row-place .ensures) ∙ c .before .place .given .1) in
-    omega arith
+mul-held c = omega (arith, row-listed (c .before .before .before .before .args .t1) (long (c .before .before .before .before)) (c .before .before .before .before .args .row) _ (sym (c .before .before .before .row-place .ensures) ∙ c .before .place .given .1))
 
 element-copy-out-held : tie.Need-element-copy-out-held
-element-copy-out-held c =
-    let s = c .before .before .before .before in
-    row-listed (s .args .t1) (long s) (s .args .row) _ (sym (c .before .before .before .row-place .ensures) ∙ c .before .place .given .1)
+element-copy-out-held c = row-listed (c .before .before .before .before .args .t1) (long (c .before .before .before .before)) (c .before .before .before .before .args .row) _ (sym (c .before .before .before .row-place .ensures) ∙ c .before .place .given .1)
 
-less-last-requires : tie.Need-less-last-requires
-less-last-requires c κs = search needs
+replaces-row-requires : tie.Need-replaces-row-requires
+replaces-row-requires c κs = search needs
 
-add-put-row-at : tie.Need-add-put-row-at
-add-put-row-at c =
-    let s = c .before .before .before .before .before .before .before .before in
-    let l = row-listed (s .args .t1) (long s) (s .args .row) _ (sym (c .before .before .before .before .before .before .before .row-place .ensures) ∙ c .before .before .before .before .before .place .given .1) in
-    omega arith
+mul-row : tie.Need-mul-row
+mul-row c = omega (arith, row-listed (c .before .before .before .before .before .before .before .args .t1) (long (c .before .before .before .before .before .before .before)) (c .before .before .before .before .before .before .before .args .row) _ (sym (c .before .before .before .before .before .before .row-place .ensures) ∙ c .before .before .before .before .place .given .1))
 
-put-row-at-requires : tie.Need-put-row-at-requires
-put-row-at-requires c κs =
-    let s = c .before .before .before .before .before .before .before .before in
-    row-replaces (s .args .t1) (long s) (s .args .row) _ (sym (c .before .before .before .before .before .before .before .row-place .ensures) ∙ c .before .before .before .before .before .place .given .1)
+element-set-from-row : tie.Need-element-set-from-row
+element-set-from-row c = row-listed (c .before .before .before .before .before .before .before .args .t1) (long (c .before .before .before .before .before .before .before)) (c .before .before .before .before .before .before .before .args .row) _ (sym (c .before .before .before .before .before .before .row-place .ensures) ∙ c .before .before .before .before .place .given .1)
 
 returns : tie.Need-returns
-returns c =
-    let s = c .before .before .before .before .before .before .before .before .before in
-    hold-replaces (s .args .t1) (long s) (s .args .row) _ (sym (c .before .before .before .before .before .before .before .before .row-place .ensures) ∙ c .before .before .before .before .before .before .place .given .1) _ _ (c .before .before .before .less-last .ensures) (c .before .if1 .taken) _ (c .put-row-at .ensures)
+returns c = hold-replaces (c .before .before .before .before .before .before .before .args .t1) (long (c .before .before .before .before .before .before .before)) (c .before .before .before .before .before .before .before .args .row) _ (sym (c .before .before .before .before .before .before .row-place .ensures) ∙ c .before .before .before .before .place .given .1) _ (sym (c .before .replaces-row .ensures) ∙ c .if1 .taken)
 
 enum-known-place-2 : tie.Need-enum-known-place-2
 enum-known-place-2 c = search needs
 
-put-row-at-requires-2 : tie.Need-put-row-at-requires-2
-put-row-at-requires-2 c κs =
-    let s = c .before .before .before .before .before in
-    row-inserts (s .args .t1) (long s) (s .args .row) _ (sym (c .before .before .before .before .row-place .ensures) ∙ c .before .before .place2 .given .1) (c .if2 .taken)
+put-row-at-requires : tie.Need-put-row-at-requires
+put-row-at-requires c κs = row-inserts (c .before .before .before .before .before .args .t1) (long (c .before .before .before .before .before)) (c .before .before .before .before .before .args .row) _ (sym (c .before .before .before .before .row-place .ensures) ∙ c .before .before .place2 .given .1) (c .if2 .taken)
 
 returns-2 : tie.Need-returns-2
-returns-2 c =
-    let s = c .before .before .before .before .before .before in
-    hold-inserts (s .args .t1) (long s) (s .args .row) _ (sym (c .before .before .before .before .before .row-place .ensures) ∙ c .before .before .before .place2 .given .1) (c .before .if2 .taken) _ (c .put-row-at2 .ensures)
+returns-2 c = hold-inserts (c .before .before .before .before .before .before .args .t1) (long (c .before .before .before .before .before .before)) (c .before .before .before .before .before .before .args .row) _ (sym (c .before .before .before .before .before .row-place .ensures) ∙ c .before .before .before .place2 .given .1) (c .before .if2 .taken) _ (c .put-row-at .ensures)
 
 returns-3 : tie.Need-returns-3
-returns-3 c =
-    let s = c .before .before .before .before .before .before .before .before in
-    hold-keeps (s .args .t1) (long s) (s .args .row) _ (sym (c .before .before .before .before .before .before .before .row-place .ensures) ∙ c .before .before .before .before .before .place .given .1) _ _ (c .before .before .less-last .ensures) (c .if1 .left)
+returns-3 c = hold-keeps (c .before .before .before .before .before .before .before .args .t1) (long (c .before .before .before .before .before .before .before)) (c .before .before .before .before .before .before .before .args .row) _ (sym (c .before .before .before .before .before .before .row-place .ensures) ∙ c .before .before .before .before .place .given .1) _ (sym (c .before .replaces-row .ensures) ∙ c .if1 .left)
 
 returns-4 : tie.Need-returns-4
-returns-4 c =
-    let s = c .before .before .before .before .before in
-    hold-full (s .args .t1) (long s) (s .args .row) _ (sym (c .before .before .before .before .row-place .ensures) ∙ c .before .before .place2 .given .1) (c .if2 .left)
+returns-4 c = hold-full (c .before .before .before .before .before .args .t1) (long (c .before .before .before .before .before)) (c .before .before .before .before .before .args .row) _ (sym (c .before .before .before .before .row-place .ensures) ∙ c .before .before .place2 .given .1) (c .if2 .left)
 
 pub hold-row-spec : {M : Type 1} → statement M
 hold-row-spec =
@@ -79,12 +59,12 @@ hold-row-spec =
     enum-known-place
     mul-held
     element-copy-out-held
-    less-last-requires
-    add-put-row-at
-    put-row-at-requires
+    replaces-row-requires
+    mul-row
+    element-set-from-row
     returns
     enum-known-place-2
-    put-row-at-requires-2
+    put-row-at-requires
     returns-2
     returns-3
     returns-4)

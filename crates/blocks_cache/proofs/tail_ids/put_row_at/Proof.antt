@@ -10,7 +10,9 @@ use Rattle.block_records.proofs.ArrayLaws.{Splicing, splice-after, splice-befor
 use Rattle.block_records.proofs.LoopLaws.{length-mapped}
 use Rattle.block_records.specs.Arrays.{Splices, spliced}
 use Rattle.block_records.specs.Lists.{padded}
-use Rattle.blocks_cache.specs.TailArrays.{listed-row-count, zero-tail}
+use lib.Dec.{ltb}
+use Rattle.block_records.specs.Lists.{pick}
+use Rattle.blocks_cache.specs.TailArrays.{zero-tail}
 use Rattle.blocks_cache.proofs.tail_ids.put_row_at.Statement.{statement}
 use Rattle.blocks_cache.proofs.tail_ids.put_row_at.Tie as tie
 
@@ -23,28 +25,28 @@ abbrev μ-loop : tie.MeasureT-loop
 long : (c : tie.Start Inv-loop μ-loop) → length (c .args .t1 .rows) ≡ 17
 long c = search (needs, length-mapped)
 
-room : (c : tie.Start Inv-loop μ-loop) (k : ℕ) → k ≡ listed-row-count (c .args .t1 .count) → Splices 17 (c .args .at) (c .args .from) k
+room : (c : tie.Start Inv-loop μ-loop) (k : ℕ) → k ≡ pick (ltb (c .args .t1 .count) 17) (c .args .t1 .count) 17 → Splices 17 (c .args .at) (c .args .from) k
 room s k e = splice-start 17 zero-tail (s .args .at) (s .args .from) (s .args .row) (s .args .t1 .rows) (s .args .t1 .count) (s .pre) (long s) k e .split
 
 zero-tail-requires : tie.Need-zero-tail-requires Inv-loop μ-loop
 zero-tail-requires c κs = search needs
 
-listed-row-count-requires : tie.Need-listed-row-count-requires Inv-loop μ-loop
-listed-row-count-requires c κs = search needs
+listed-count-requires : tie.Need-listed-count-requires Inv-loop μ-loop
+listed-count-requires c κs = search needs
 
 add-count : tie.Need-add-count Inv-loop μ-loop
-add-count c = let p = room (c .before .before) (c .listed-row-count .result) (c .listed-row-count .ensures) in omega arith
+add-count c = let p = room (c .before .before) (c .listed-count .result) (c .listed-count .ensures) in omega arith
 
 sub-count : tie.Need-sub-count Inv-loop μ-loop
-sub-count c = let p = room (c .before .before) (c .listed-row-count .result) (c .listed-row-count .ensures) in omega arith
+sub-count c = let p = room (c .before .before) (c .listed-count .result) (c .listed-count .ensures) in omega arith
 
 add-count-2 : tie.Need-add-count-2 Inv-loop μ-loop
-add-count-2 c = let p = room (c .before .before) (c .listed-row-count .result) (c .listed-row-count .ensures) in omega arith
+add-count-2 c = let p = room (c .before .before) (c .listed-count .result) (c .listed-count .ensures) in omega arith
 
 loop-holds : tie.Need-loop-holds Inv-loop μ-loop
 loop-holds c =
     let s = c .before .before in
-    rw (c .before .zero-tail .ensures) (splice-start 17 zero-tail (s .args .at) (s .args .from) (s .args .row) (s .args .t1 .rows) (s .args .t1 .count) (s .pre) (long s) _ (c .listed-row-count .ensures))
+    rw (c .before .zero-tail .ensures) (splice-start 17 zero-tail (s .args .at) (s .args .from) (s .args .row) (s .args .t1 .rows) (s .args .t1 .count) (s .pre) (long s) _ (c .listed-count .ensures))
 
 mul-rows : tie.Need-mul-rows Inv-loop μ-loop
 mul-rows c = search needs
@@ -106,7 +108,7 @@ returns c =
     let s = c .before .before .before .before in
     let x = s .args .t1 .rows in
     let e = splice-end 17 zero-tail (s .args .at) (s .args .from) (s .args .row) x _ _ _ _ (h .inv) (long s) (c .loop-test .left) in
-    let same = ap (λ k. take k x) (c .before .before .listed-row-count .ensures) ∙ take-within 17 (s .args .t1 .count) x (long s) in
+    let same = ap (λ k. take k x) (c .before .before .listed-count .ensures) ∙ take-within 17 (s .args .t1 .count) x (long s) in
     let n = e .0 ∙ ap (λ r. length (spliced (s .args .at) (s .args .from) (s .args .row) r)) same in
     let o = e .1 ∙ ap (λ r. padded 17 zero-tail (spliced (s .args .at) (s .args .from) (s .args .row) r)) same in
     λ i. record { rows = o i; count = n i }
@@ -118,7 +120,7 @@ put-row-at-spec =
     Inv-loop
     μ-loop
     zero-tail-requires
-    listed-row-count-requires
+    listed-count-requires
     add-count
     sub-count
     add-count-2

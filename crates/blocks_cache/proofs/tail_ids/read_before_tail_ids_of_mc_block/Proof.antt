@@ -28,7 +28,7 @@ returns-2 c =
     tails-refuses (s .args .cache) (s .args .short) _ (sym (c .before .before .before .before .sound-cache .ensures) ∙ not-false (c .before .before .before .before .sound-cache .result) (c .before .before .before .if1 .left)) (sym (c .before .before .key-fits .ensures) ∙ not-true (c .before .before .key-fits .result) (c .before .if2 .taken)) (c .no-tails2 .ensures)
 
 read-tails-requires : tie.Need-read-tails-requires
-read-tails-requires c κs = search needs
+read-tails-requires c κs = sym (c .before .before .before .sound-cache .ensures) ∙ not-false (c .before .before .before .sound-cache .result) (c .before .before .if1 .left)
 
 returns-3 : tie.Need-returns-3
 returns-3 c =

@@ -23,17 +23,17 @@ abbrev μ-loop : tie.MeasureT-loop
 long : (c : tie.Start Inv-loop μ-loop) → length (c .args .t1 .rows) ≡ 17
 long c = search (needs, length-mapped)
 
-listed-row-count-requires : tie.Need-listed-row-count-requires Inv-loop μ-loop
-listed-row-count-requires c κs = search needs
+listed-count-requires : tie.Need-listed-count-requires Inv-loop μ-loop
+listed-count-requires c κs = search needs
 
 loop-holds : tie.Need-loop-holds Inv-loop μ-loop
 loop-holds c =
     let s = c .before in
-    let k = c .listed-row-count .result in
+    let k = c .listed-count .result in
     let p = row-below (s .args .shard) in
     let q = row-at (s .args .shard) in
-    let e = ap (λ n. take n (s .args .t1 .rows)) (c .listed-row-count .ensures) ∙ take-within 17 (s .args .t1 .count) (s .args .t1 .rows) (long s) in
-    (search needs, rw (c .listed-row-count .ensures) (within-few 17 (s .args .t1 .count)), ap (place p q) (sym e) ∙ place-start p q (s .args .t1 .rows) k)
+    let e = ap (λ n. take n (s .args .t1 .rows)) (c .listed-count .ensures) ∙ take-within 17 (s .args .t1 .count) (s .args .t1 .rows) (long s) in
+    (search needs, rw (c .listed-count .ensures) (within-few 17 (s .args .t1 .count)), ap (place p q) (sym e) ∙ place-start p q (s .args .t1 .rows) k)
 
 mul-row : tie.Need-mul-row Inv-loop μ-loop
 mul-row c = search needs
@@ -98,7 +98,7 @@ row-place-spec =
     (tie.spec
     Inv-loop
     μ-loop
-    listed-row-count-requires
+    listed-count-requires
     loop-holds
     mul-row
     element-copy-out-row

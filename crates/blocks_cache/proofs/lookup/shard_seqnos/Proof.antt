@@ -10,9 +10,9 @@ use Rattle.block_records.proofs.ArrayLaws.{each-end, each-next}
 use Rattle.block_records.proofs.LoopLaws.{padded-nil}
 use Rattle.block_records.specs.Lists.{each, padded}
 use Rattle.blocks_cache.proofs.ExtractionArrayLaws.{each-all}
-use Rattle.blocks_cache.specs.ExtractionArrays.{no-seqnos, shard-seqnos}
-use Rattle.blocks_cache.proofs.extraction.shard_seqnos.Statement.{statement}
-use Rattle.blocks_cache.proofs.extraction.shard_seqnos.Tie as tie
+use Rattle.blocks_cache.specs.Lookups.{no-seqnos, shard-seqnos}
+use Rattle.blocks_cache.proofs.lookup.shard_seqnos.Statement.{statement}
+use Rattle.blocks_cache.proofs.lookup.shard_seqnos.Tie as tie
 
 abbrev Inv-loop : tie.InvT-loop
 Inv-loop shards out₀ i₀ out i = (i ≤ 8) × (out ≡ padded 8 no-seqnos (take i (each shard-seqnos (take 8 shards))))

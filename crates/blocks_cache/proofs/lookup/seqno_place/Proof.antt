@@ -9,10 +9,10 @@ use Rattle.block_records.proofs.LoopLaws.{length-mapped}
 use Rattle.block_records.proofs.LoopLaws.{left}
 use Rattle.blocks_group.specs.GroupQueries.{first-place}
 use Rattle.blocks_group.proofs.QueryStepLaws.{first-found, first-next, first-over}
-use Rattle.blocks_cache.specs.ExtractionArrays.{cached-at}
+use Rattle.blocks_cache.specs.Lookups.{cached-at}
 use Rattle.blocks_cache.proofs.ExtractionArrayLaws.{first-start}
-use Rattle.blocks_cache.proofs.extraction.seqno_place.Statement.{statement}
-use Rattle.blocks_cache.proofs.extraction.seqno_place.Tie as tie
+use Rattle.blocks_cache.proofs.lookup.seqno_place.Statement.{statement}
+use Rattle.blocks_cache.proofs.lookup.seqno_place.Tie as tie
 
 abbrev Inv-loop : tie.InvT-loop
 Inv-loop seqno group i₀ i = (i ≤ 16) × (first-place (cached-at seqno) 0 (group .entries) ≡ first-place (cached-at seqno) i (left (group .entries) 16 i))

@@ -6,8 +6,8 @@ use borrow.Author.Needs.{needs}
 use lib.ListN.{length}
 use Rattle.block_records.proofs.LoopLaws.{length-mapped}
 use Rattle.blocks_cache.proofs.ExtractionArrayLaws.{entry-there, no-entry-there, no-shard-there, shard-within}
-use Rattle.blocks_cache.proofs.extraction.lookup.Statement.{statement}
-use Rattle.blocks_cache.proofs.extraction.lookup.Tie as tie
+use Rattle.blocks_cache.proofs.lookup.lookup.Statement.{statement}
+use Rattle.blocks_cache.proofs.lookup.lookup.Tie as tie
 
 idents : (c : tie.Start) → length (c .args .idents) ≡ 8
 idents c = search (needs, length-mapped)

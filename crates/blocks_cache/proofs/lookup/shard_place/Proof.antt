@@ -9,13 +9,13 @@ use Rattle.block_records.proofs.LoopLaws.{length-mapped}
 use Rattle.block_records.proofs.LoopLaws.{left}
 use Rattle.blocks_group.specs.GroupQueries.{first-place}
 use Rattle.blocks_group.proofs.QueryStepLaws.{first-found, first-next, first-over}
-use Rattle.blocks_cache.specs.ExtractionArrays.{is-ident}
+use Rattle.blocks_cache.specs.ShardArrays.{ident-at}
 use Rattle.blocks_cache.proofs.ExtractionArrayLaws.{first-start}
-use Rattle.blocks_cache.proofs.extraction.shard_place.Statement.{statement}
-use Rattle.blocks_cache.proofs.extraction.shard_place.Tie as tie
+use Rattle.blocks_cache.proofs.lookup.shard_place.Statement.{statement}
+use Rattle.blocks_cache.proofs.lookup.shard_place.Tie as tie
 
 abbrev Inv-loop : tie.InvT-loop
-Inv-loop shard idents i₀ i = (i ≤ 8) × (first-place (is-ident shard) 0 idents ≡ first-place (is-ident shard) i (left idents 8 i))
+Inv-loop shard idents i₀ i = (i ≤ 8) × (first-place (ident-at shard) 0 idents ≡ first-place (ident-at shard) i (left idents 8 i))
 
 abbrev μ-loop : tie.MeasureT-loop
 μ-loop shard idents i₀ i = 8 - i
@@ -24,7 +24,7 @@ len : (c : tie.Start Inv-loop μ-loop) → length (c .args .t1) ≡ 8
 len c = search (needs, length-mapped)
 
 loop-holds : tie.Need-loop-holds Inv-loop μ-loop
-loop-holds c = (search needs, first-start (is-ident (c .args .shard)) 8 (c .args .t1) (len c))
+loop-holds c = (search needs, first-start (ident-at (c .args .shard)) 8 (c .args .t1) (len c))
 
 mul-x : tie.Need-mul-x Inv-loop μ-loop
 mul-x c = search needs
@@ -41,7 +41,7 @@ returns c =
     let h = v .before .before .before in
     let s = h .before in
     let l = len s in
-    sym (h .loop .inv .1 ∙ first-found (is-ident (s .args .shard)) (s .args .t1) 8 (h .loop .i) _ (omega arith) (omega arith) (sym (v .same-shard .ensures) ∙ c .if1 .taken))
+    sym (h .loop .inv .1 ∙ first-found (ident-at (s .args .shard)) (s .args .t1) 8 (h .loop .i) _ (omega arith) (omega arith) (sym (v .same-shard .ensures) ∙ c .if1 .taken))
 
 add-i : tie.Need-add-i Inv-loop μ-loop
 add-i c = search needs
@@ -55,7 +55,7 @@ loop-again c =
     let h = v .before .before .before in
     let s = h .before in
     let l = len s in
-    (search needs, h .loop .inv .1 ∙ first-next (is-ident (s .args .shard)) (s .args .t1) 8 (h .loop .i) _ (omega arith) (omega arith) (sym (v .same-shard .ensures) ∙ c .if1 .left))
+    (search needs, h .loop .inv .1 ∙ first-next (ident-at (s .args .shard)) (s .args .t1) 8 (h .loop .i) _ (omega arith) (omega arith) (sym (v .same-shard .ensures) ∙ c .if1 .left))
 
 returns-2 : tie.Need-returns-2 Inv-loop μ-loop
 returns-2 c =
@@ -63,7 +63,7 @@ returns-2 c =
     let s = h .before in
     let l = len s in
     let t = c .loop-test .left in
-    sym (h .loop .inv .1 ∙ first-over (is-ident (s .args .shard)) (s .args .t1) 8 (h .loop .i) (omega arith))
+    sym (h .loop .inv .1 ∙ first-over (ident-at (s .args .shard)) (s .args .t1) 8 (h .loop .i) (omega arith))
 
 pub shard-place-spec : {M : Type 1} → statement M
 shard-place-spec =

@@ -7,10 +7,10 @@ use lib.ListN.{length, take}
 use Rattle.block_records.proofs.ArrayLaws.{each-end, each-next, take-within, within-few}
 use Rattle.block_records.proofs.LoopLaws.{length-mapped, padded-nil}
 use Rattle.block_records.specs.Lists.{each, padded}
-use Rattle.blocks_cache.specs.ExtractionArrays.{no-seqno-here, seqno-here}
+use Rattle.blocks_cache.specs.Lookups.{no-seqno-here, seqno-here}
 use borrow.Author.Needs.{needs}
-use Rattle.blocks_cache.proofs.extraction.group_seqnos.Statement.{statement}
-use Rattle.blocks_cache.proofs.extraction.group_seqnos.Tie as tie
+use Rattle.blocks_cache.proofs.lookup.group_seqnos.Statement.{statement}
+use Rattle.blocks_cache.proofs.lookup.group_seqnos.Tie as tie
 
 abbrev Inv-loop : tie.InvT-loop
 Inv-loop group entries₀ count i₀ entries i = (i ≤ count) × (count ≤ 16) × (entries ≡ padded 16 no-seqno-here (take i (each seqno-here (take count (group .entries)))))

@@ -11,9 +11,9 @@ use Rattle.block_records.proofs.LoopLaws.{padded-nil}
 use Rattle.block_records.specs.Lists.{each, padded}
 use Rattle.blocks_cache.proofs.ExtractionArrayLaws.{each-all}
 use Rattle.block_records.specs.Zeros.{zero-shard}
-use Rattle.blocks_cache.specs.ExtractionArrays.{held-shard}
-use Rattle.blocks_cache.proofs.extraction.shard_idents.Statement.{statement}
-use Rattle.blocks_cache.proofs.extraction.shard_idents.Tie as tie
+use Rattle.blocks_cache.specs.ShardArrays.{held-shard}
+use Rattle.blocks_cache.proofs.shards.shard_idents.Statement.{statement}
+use Rattle.blocks_cache.proofs.shards.shard_idents.Tie as tie
 
 abbrev Inv-loop : tie.InvT-loop
 Inv-loop shards out₀ i₀ out i = (i ≤ 8) × (out ≡ padded 8 zero-shard (take i (each held-shard (take 8 shards))))

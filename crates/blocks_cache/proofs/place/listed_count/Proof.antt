@@ -1,8 +1,8 @@
 -- Each branch is a case of the definition.
 -- Assumes nothing.
 use borrow.Author.Tests.{le-ltb, lt-ltb}
-use Rattle.blocks_cache.proofs.extraction.listed_count.Statement.{statement}
-use Rattle.blocks_cache.proofs.extraction.listed_count.Tie as tie
+use Rattle.blocks_cache.proofs.place.listed_count.Statement.{statement}
+use Rattle.blocks_cache.proofs.place.listed_count.Tie as tie
 
 returns : tie.Need-returns
 returns c = rw (lt-ltb _ _ (c .if1 .taken))
