@@ -9,7 +9,7 @@ use native.Mathlib.Nat.{le-of-suc-le-suc, not-suc-le-zero}
 use native.Mathlib.Numerals.{add-one}
 use native.Mathlib.Omega.{arith}
 use lib.Dec.{leb, ltb}
-use lib.ListN.{getD, length, length-append, replicate, set}
+use lib.ListN.{getD, length, length-append, length-set, replicate, set, take}
 use lib.Seq.{getD-at, set-at}
 use Rattle.block_records.specs.declared.block_id.BlockId.{BlockId}
 use Rattle.block_records.specs.declared.block_id.BlockIdShort.{BlockIdShort}
@@ -30,7 +30,7 @@ use Rattle.blocks_group.specs.declared.queries.SeqnoOption.{SeqnoOption}
 use Rattle.block_records.proofs.ArrayLaws.{getD-any}
 use Rattle.block_records.proofs.BlockIdLaws.{shard-order}
 use Rattle.block_records.proofs.ListLaws.{all-weaken, length-each, rising-each}
-use Rattle.block_records.proofs.LoopLaws.{left, left-more, left-over, left-passed}
+use Rattle.block_records.proofs.LoopLaws.{left, left-more, left-over, left-passed, left-start}
 use Rattle.block_records.proofs.OrderLaws.{differs, less-not-same}
 use Rattle.block_records.proofs.Tests.{and-left, and-right, clash, not-true, on}
 use Rattle.block_records.specs.BlockIds.{is-masterchain, key-shard, less-shard, listed-keys, same-shard}
@@ -40,19 +40,19 @@ use Rattle.blocks_cache.proofs.CacheLookupLaws.{shard-place-listed}
 use Rattle.blocks_cache.proofs.CallLaws.{no-leaves}
 use Rattle.blocks_cache.proofs.CallOnLaws.{on-sound}
 use Rattle.blocks_cache.proofs.MasterDataLaws.{drop-ids-below-packed, drop-ids-from-packed}
-use Rattle.blocks_cache.proofs.ShardArrayLaws.{shard-place-packed}
+use Rattle.blocks_cache.proofs.ShardArrayLaws.{idents-place, shard-place-packed}
 use Rattle.blocks_cache.proofs.SoundLaws.{parts}
 use Rattle.blocks_cache.proofs.SoundSteps.{all-yes}
 use Rattle.blocks_cache.specs.CacheLayout.{answered-on, call-on, pack, pack-outcome, pack-shard, questions-on, sound-cache, view, zero-shard-group}
 use Rattle.blocks_cache.specs.CacheParts.{with-master-data, with-master-group, with-shard-groups}
 use Rattle.blocks_cache.specs.Calls.{Effect, Request, collect, done, remove-next-collated, set-boundary, unlent}
-use Rattle.blocks_cache.specs.Collections.{bound-held, change-outcome, changed-first, collect-held, collect-shard-group, done-with, drop-collected, drop-removed, keys-answer, on-place, on-shard-group, pack-change, remove-held, remove-held-masters, with-group-at}
+use Rattle.blocks_cache.specs.Collections.{bound-held, change-outcome, changed-first, collect-held, collect-shard-group, done-with, drop-collected, drop-removed, keys-answer, on-place, on-shard-group, pack-change, remove-held, remove-held-masters}
 use Rattle.blocks_cache.specs.Edges.{answers, same}
 use Rattle.blocks_cache.specs.Effects.{after, answered, bound-one, collect-shard, do-collect, effect, outcome-of, plain, remove-ids, remove-one}
 use Rattle.blocks_cache.specs.Model.{Model, ShardModel, is-shard, on-shard, shard-before, with-data, with-shards}
 use Rattle.blocks_cache.specs.Places.{place, place-from}
 use Rattle.blocks_cache.specs.Refusals.{further, sound}
-use Rattle.blocks_cache.specs.ShardArrays.{shard-place}
+use Rattle.blocks_cache.specs.ShardArrays.{held-shard, ident-place, shard-place}
 use Rattle.blocks_group.proofs.GroupLaws.{entry-seqno}
 use Rattle.blocks_group.proofs.QueryLaws.{below-go, collect-group-packed, collect-masters-packed, from-go, highest-below-boundary-packed, kept-by, lowest-collated-above-packed, remove-collated-above-packed, remove-collated-masters-above-packed}
 use Rattle.blocks_group.specs.GroupArrays.{set-group-boundary, set-master-boundary}
@@ -311,29 +311,72 @@ removes ks m = refl
 
 -- ===== the steps of the code =====
 
-module _ (s : ShardIdent) (f : Group → Group) (c : Cache) (long : length (c .shards) ≡ 8) (k : ℕ) where
-  pub shard-unknown : shard-place s (c .«shard_count») (c .shards) ≡ place-vacant k → c ≡ on-shard-group s f c
-  shard-unknown e = ap (λ (p : Place). with-shard-groups (on-place f p (c .shards)) c) (sym e)
+-- a group replaced by another of its shard leaves each shard in its place; d is any group
+shards-stay : (gs : List ShardGroup) (k : ℕ) (d : ShardGroup) (g : Group) → each held-shard (set gs k (record { shard = getD gs k d .shard; group = g })) ≡ each held-shard gs
+shards-stay [] k d g = refl
+shards-stay (x ∷ xs) zero d g = refl
+shards-stay (x ∷ xs) (suc k) d g = ap (λ (r : List ShardIdent). x .shard ∷ r) (shards-stay xs k d g)
+
+-- The keys from place i on make of the cache so far what all make of the first; its shards stand where they stood.
+pub record KeysLeft (f : Cache → BlockIdShort → Cache) (idents : List ShardIdent) (ks : List BlockIdShort) (count : ℕ) (first so-far : Cache) (i : ℕ) : Type 0 where
+  pub within : i ≤ 9
+  pub long : length (so-far .shards) ≡ 8
+  pub stay : each held-shard (so-far .shards) ≡ idents
+  pub rest : fold f first (take count ks) ≡ fold f so-far (left ks count i)
+
+module _ (f : Cache → BlockIdShort → Cache) (idents : List ShardIdent) (ks : List BlockIdShort) (nine : length ks ≡ 9) (count : ℕ) (first : Cache) where
+  pub keys-start : length (first .shards) ≡ 8 → idents ≡ each held-shard (first .shards) → KeysLeft f idents ks count first first 0
+  keys-start n e =
+      record { within = omega arith; long = n; stay = sym e; rest = ap (fold f first) (sym (left-start ks count)) }
+
+  module _ (c : Cache) (i : ℕ) (v : KeysLeft f idents ks count first c i) where
+    -- one key more
+    pub keys-next : (d : BlockIdShort) → i < 9 → i < count → (r : Cache) → r ≡ f c (getD ks i d) → length (r .shards) ≡ 8 → each held-shard (r .shards) ≡ idents →
+        KeysLeft f idents ks count first r (i + 1)
+    keys-next d h k r e n x =
+        record {
+          within = omega arith;
+          long = n;
+          stay = x;
+          rest = v .rest ∙ ap (fold f c) (left-more ks count i d (omega arith) k) ∙ ap (λ (y : Cache). fold f y (left ks count (i + 1))) (sym e);
+        }
+
+    -- none is left
+    pub keys-passed : count ≤ i → c ≡ fold f first (take count ks)
+    keys-passed h = sym (v .rest ∙ ap (fold f c) (left-passed ks count i h))
+
+    pub keys-over : 9 ≤ i → c ≡ fold f first (take count ks)
+    keys-over h = sym (v .rest ∙ ap (fold f c) (left-over ks count i (omega arith)))
+
+-- The group of one shard changed in its place, which is found among the shards.
+module _ (idents : List ShardIdent) (c : Cache) (long : length (c .shards) ≡ 8) (stay : each held-shard (c .shards) ≡ idents) (s : ShardIdent) (k : ℕ) where
+  abbrev found : Place
+  found = ident-place s (c .«shard_count») idents
+
+  stands : (p : Place) → found ≡ p → shard-place s (c .«shard_count») (c .shards) ≡ p
+  stands p e = sym (idents-place s (c .«shard_count») (c .shards)) ∙ ap (ident-place s (c .«shard_count»)) stay ∙ e
+
+  pub found-listed : found ≡ place-at k → k < 8
+  found-listed e = shard-place-listed s c long k (stands (place-at k) e)
+
+  pub found-long : (g : ShardGroup) → length (set (c .shards) k g) ≡ 8
+  found-long g = length-set (c .shards) k g ∙ long
 
   -- d is any group
-  pub shard-known : (e : shard-place s (c .«shard_count») (c .shards) ≡ place-at k) (d : ShardGroup) (g : Group) → g ≡ f (getD (c .shards) k d .group) → (r : Cache) →
-      r ≡ with-shard-groups (with-group-at k g (c .shards)) c → r ≡ on-shard-group s f c
-  shard-known e d g eg r er =
-      let l = shard-place-listed s c long k e in
-      er ∙ ap (λ (x : Group). with-shard-groups (with-group-at k x (c .shards)) c)
-      (eg ∙ ap (λ (x : ShardGroup). f (x .group)) (getD-any (c .shards) k d zero-shard-group (omega (arith, long))))
-      ∙ ap (λ (p : Place). with-shard-groups (on-place f p (c .shards)) c) (sym e)
+  pub found-stay : (d : ShardGroup) (g : Group) → each held-shard (set (c .shards) k (record { shard = getD (c .shards) k d .shard; group = g })) ≡ idents
+  found-stay d g = shards-stay (c .shards) k d g ∙ stay
 
--- one key more
-module _ (f : Cache → BlockIdShort → Cache) (l : List BlockIdShort) (count i : ℕ) (c : Cache) where
-  pub keys-next : (d : BlockIdShort) → i < length l → i < count → (r : Cache) → r ≡ f c (getD l i d) → fold f c (left l count i) ≡ fold f r (left l count (i + 1))
-  keys-next d h k r e = rw (left-more l count i d h k, e)
+  module _ (f : Group → Group) where
+    pub shard-unknown : found ≡ place-vacant k → c ≡ on-shard-group s f c
+    shard-unknown e = ap (λ (p : Place). with-shard-groups (on-place f p (c .shards)) c) (sym (stands (place-vacant k) e))
 
-  pub keys-passed : count ≤ i → fold f c (left l count i) ≡ c
-  keys-passed h = rw (left-passed l count i h)
-
-  pub keys-over : length l ≤ i → fold f c (left l count i) ≡ c
-  keys-over h = rw (left-over l count i h)
+    pub shard-known : found ≡ place-at k → (d : ShardGroup) (g : Group) → g ≡ f (getD (c .shards) k d .group) →
+        with-shard-groups (set (c .shards) k (record { shard = getD (c .shards) k d .shard; group = g })) c ≡ on-shard-group s f c
+    shard-known e d g eg =
+        let l = found-listed e in
+        ap (λ (x : Group). with-shard-groups (set (c .shards) k (record { shard = getD (c .shards) k d .shard; group = x })) c) eg
+        ∙ ap (λ (x : ShardGroup). with-shard-groups (set (c .shards) k (record { shard = x .shard; group = f (x .group) })) c) (getD-any (c .shards) k d zero-shard-group (omega arith))
+        ∙ ap (λ (p : Place). with-shard-groups (on-place f p (c .shards)) c) (sym (stands (place-at k) e))
 
 -- the first elements changed, one by one
 module _ {A : Type 0} (f : A → A) where
@@ -381,11 +424,11 @@ module _ (c : Cache) (k : BlockIdShort) (s : ShardIdent) (e : s ≡ key-shard k)
   side : {b : Bool} → is-masterchain s ≡ b → is-masterchain (key-shard k) ≡ b
   side t = ap is-masterchain (sym e) ∙ t
 
-  module _ (r : Cache) where
-    pub bounds-masters : is-masterchain s ≡ true → (g : MasterGroup) → g ≡ set-master-boundary k (c .masters) → r ≡ with-master-group g c → r ≡ bound-held c k
-    unfolding bound-held
-    bounds-masters t g eg er = rw (side t) (er ∙ ap (λ (x : MasterGroup). with-master-group x c) eg)
+  pub bounds-masters : is-masterchain s ≡ true → (g : MasterGroup) → g ≡ set-master-boundary k (c .masters) → with-master-group g c ≡ bound-held c k
+  unfolding bound-held
+  bounds-masters t g eg = rw (side t) (ap (λ (x : MasterGroup). with-master-group x c) eg)
 
+  module _ (r : Cache) where
     pub bounds-shard : is-masterchain s ≡ false → r ≡ on-shard-group s (set-group-boundary k) c → r ≡ bound-held c k
     unfolding bound-held
     bounds-shard t er = rw (side t) (er ∙ ap (λ (x : ShardIdent). on-shard-group x (set-group-boundary k) c) e)
@@ -408,6 +451,6 @@ collect-made c h g d gs eh eg ed es =
     λ i. record { «zerostate_mc_seqno» = c .«zerostate_mc_seqno»; masters = eg i; «data» = x i; shards = es i; «shard_count» = c .«shard_count» }
 
 -- .. and of one without the masters removed
-pub remove-made : (n : ℕ) (c : Cache) (l : SeqnoOption) (g : MasterGroup) (d : MasterData) (r : Cache) → l ≡ lowest-collated-above n (c .masters .group) →
-    g ≡ remove-collated-masters-above n (c .masters) → d ≡ drop-removed l (c .«data») → (w : Cache) → w ≡ with-master-group g c → r ≡ with-master-data d w → r ≡ remove-held-masters n c
-remove-made n c l g d r el eg ed w ew er = rw (er, ew, eg, ed, el)
+pub remove-made : (n : ℕ) (c : Cache) (l : SeqnoOption) (g : MasterGroup) (d : MasterData) → l ≡ lowest-collated-above n (c .masters .group) →
+    g ≡ remove-collated-masters-above n (c .masters) → d ≡ drop-removed l (c .«data») → with-master-data d (with-master-group g c) ≡ remove-held-masters n c
+remove-made n c l g d el eg ed = rw (eg, ed, el)

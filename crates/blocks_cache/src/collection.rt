@@ -1,31 +1,25 @@
 // Document 01, Whole cache: Set boundary, Collect, Remove next collated.
 ghost use mathlib.Core.Path.{_≡_};
-ghost use Prim.Native.Nat.{_<_};
 ghost use Rattle.block_records.specs.BlockIds.{listed-keys};
 ghost use Rattle.block_records.specs.Lists.{fold};
 ghost use Rattle.blocks_cache.specs.Calls.{collect, remove-next-collated, set-boundary, unlent};
 ghost use Rattle.blocks_cache.specs.CacheLayout.{call-on};
-ghost use Rattle.blocks_cache.specs.CacheParts.{with-shard-groups};
 ghost use Rattle.blocks_cache.specs.Collections.{bound-held, change-outcome, changed-first, collect-held, collect-shard-group, drop-collected};
-ghost use Rattle.blocks_cache.specs.Collections.{drop-removed, keys-answer, remove-held, remove-held-masters, with-group-at};
+ghost use Rattle.blocks_cache.specs.Collections.{drop-removed, keys-answer, remove-held};
 use crate::cache::Cache;
 use crate::cache::ShardGroup;
 use crate::master_data::MasterData;
 use crate::master_data::drop_ids_below;
 use crate::master_data::drop_ids_from;
-use crate::parts::with_data;
-use crate::parts::with_masters;
-use crate::parts::with_shards;
 use crate::place::Place;
-use crate::shards::find_shard;
+use crate::shards::ident_place;
+use crate::shards::shard_idents;
 use crate::soundness::sound_cache;
-use block_records::block_id::BlockIdShort;
 use block_records::block_id::is_masterchain;
 use block_records::block_id::key_shard;
 use block_records::questions::Refusal;
 use block_records::questions::keys_refusal;
 use block_records::store_records::Keys;
-use blocks_group::group::Group;
 use blocks_group::group::set_group_boundary;
 use blocks_group::group::set_master_boundary;
 use blocks_group::queries::SeqnoOption;
@@ -62,43 +56,14 @@ fn keys_answer(cache: Cache, given: Keys) -> ChangeAnswer
     }
 }
 
-// The group at a place replaced by another of its shard.
-fn replace_group(cache: Cache, at: usize, group: Group) -> Cache
-    requires { ⌜ at < 8 ⌝ }
-    ensures { λ r. ⌜ r ≡ with-shard-groups (with-group-at at group (cache .shards)) cache ⌝ }
-{
-    let mut shards = cache.shards;
-    let known = shards[at];
-    let shard = known.shard;
-    shards[at] = ShardGroup { shard, group };
-    with_shards(cache, shards)
-}
-
 // ===== set boundary =====
 
-// A key sets its group's boundary, an unknown shard is skipped.
-fn bound_one(cache: Cache, short: BlockIdShort) -> Cache
-    ensures { λ r. ⌜ r ≡ bound-held cache short ⌝ }
-{
-    let shard = key_shard(short);
-    if is_masterchain(shard) {
-        let masters = set_master_boundary(cache.masters, short);
-        return with_masters(cache, masters);
-    }
-    let shards = cache.shards;
-    let place = find_shard(shards, cache.shard_count, shard);
-    let Place::At(at) = place else {
-        return cache;
-    };
-    let known = shards[at];
-    let group = set_group_boundary(known.group, short);
-    replace_group(cache, at, group)
-}
-
-// Each key in turn.
+// Each key in turn sets its group's boundary, an unknown shard is skipped. The shards are gathered once: each group stays in its place.
 fn bound_all(cache: Cache, given: Keys) -> Cache
     ensures { λ r. ⌜ r ≡ fold bound-held cache (listed-keys given) ⌝ }
 {
+    let shards = cache.shards;
+    let idents = shard_idents(shards);
     let keys = given.keys;
     let count = given.count;
     let mut out = cache;
@@ -107,8 +72,22 @@ fn bound_all(cache: Cache, given: Keys) -> Cache
         if count <= i {
             return out;
         }
-        out = bound_one(out, keys[i]);
+        let short = keys[i];
         i += 1;
+        let shard = key_shard(short);
+        if is_masterchain(shard) {
+            let masters = set_master_boundary(out.masters, short);
+            out.masters = masters;
+            continue;
+        }
+        let place = ident_place(idents, out.shard_count, shard);
+        let Place::At(at) = place else {
+            continue;
+        };
+        let held = out.shards[at];
+        let group = set_group_boundary(held.group, short);
+        let shard = held.shard;
+        out.shards[at] = ShardGroup { shard, group };
     }
     out
 }
@@ -204,39 +183,12 @@ fn drop_removed(data: MasterData, lowest: SeqnoOption) -> MasterData
     }
 }
 
-// Non-Received masters above a seqno go, and ids with them; the range stays.
-fn remove_masters(cache: Cache, seqno: u32) -> Cache
-    ensures { λ r. ⌜ r ≡ remove-held-masters seqno cache ⌝ }
-{
-    let lowest = lowest_collated_above(cache.masters.group, seqno);
-    let kept = remove_collated_masters_above(cache.masters, seqno);
-    let data = drop_removed(cache.data, lowest);
-    let left = with_masters(cache, kept);
-    with_data(left, data)
-}
-
-// Of a key's group the non-Received entries above it go, an unknown shard is skipped.
-fn remove_one(cache: Cache, short: BlockIdShort) -> Cache
-    ensures { λ r. ⌜ r ≡ remove-held cache short ⌝ }
-{
-    let shard = key_shard(short);
-    if is_masterchain(shard) {
-        return remove_masters(cache, short.seqno);
-    }
-    let shards = cache.shards;
-    let place = find_shard(shards, cache.shard_count, shard);
-    let Place::At(at) = place else {
-        return cache;
-    };
-    let known = shards[at];
-    let group = remove_collated_above(known.group, short.seqno);
-    replace_group(cache, at, group)
-}
-
-// Each key in turn.
+// Of each key's group in turn the non-Received entries above it go, and with masters their ids; the range stays, an unknown shard is skipped.
 fn remove_all(cache: Cache, given: Keys) -> Cache
     ensures { λ r. ⌜ r ≡ fold remove-held cache (listed-keys given) ⌝ }
 {
+    let shards = cache.shards;
+    let idents = shard_idents(shards);
     let keys = given.keys;
     let count = given.count;
     let mut out = cache;
@@ -245,8 +197,25 @@ fn remove_all(cache: Cache, given: Keys) -> Cache
         if count <= i {
             return out;
         }
-        out = remove_one(out, keys[i]);
+        let short = keys[i];
         i += 1;
+        let shard = key_shard(short);
+        if is_masterchain(shard) {
+            let lowest = lowest_collated_above(out.masters.group, short.seqno);
+            let kept = remove_collated_masters_above(out.masters, short.seqno);
+            let data = drop_removed(out.data, lowest);
+            out.masters = kept;
+            out.data = data;
+            continue;
+        }
+        let place = ident_place(idents, out.shard_count, shard);
+        let Place::At(at) = place else {
+            continue;
+        };
+        let held = out.shards[at];
+        let group = remove_collated_above(held.group, short.seqno);
+        let shard = held.shard;
+        out.shards[at] = ShardGroup { shard, group };
     }
     out
 }
