@@ -388,6 +388,12 @@ module _ {A : Type 0} (f : A → A) where
   first-more : (d : A) (xs : List A) (i : ℕ) → i < length xs → set (changed-first i f xs) i (f (getD xs i d)) ≡ changed-first (i + 1) f xs
   first-more d xs i h = rw (add-one i) (first-suc d xs i h)
 
+  -- the next one is still as it was
+  next-unchanged : (d : A) (xs : List A) (i : ℕ) → getD (changed-first i f xs) i d ≡ getD xs i d
+  next-unchanged d xs zero = refl
+  next-unchanged d [] (suc i) = refl
+  next-unchanged d (x ∷ xs) (suc i) = next-unchanged d xs i
+
   pub first-over : (xs : List A) (i n : ℕ) → length xs ≤ i → length xs ≤ n → changed-first i f xs ≡ changed-first n f xs
   first-over [] zero zero h k = refl
   first-over [] zero (suc n) h k = refl
@@ -399,9 +405,11 @@ module _ {A : Type 0} (f : A → A) where
 
 -- one group more is collected; d is any group
 pub collected-next : (d : ShardGroup) (gs : List ShardGroup) (i : ℕ) → i < length gs → (out : List ShardGroup) → out ≡ changed-first i collect-shard-group gs → (g : Group) →
-    g ≡ collect-group (getD gs i d .group) → set out i (record { shard = getD gs i d .shard; group = g }) ≡ changed-first (i + 1) collect-shard-group gs
+    g ≡ collect-group (getD out i d .group) → set out i (record { shard = getD out i d .shard; group = g }) ≡ changed-first (i + 1) collect-shard-group gs
 collected-next d gs i h out eo g eg =
-    ap₂ (λ (o : List ShardGroup) (x : Group). set o i (record { shard = getD gs i d .shard; group = x })) eo eg ∙ first-more collect-shard-group d gs i h
+    let r : getD out i d ≡ getD gs i d = ap (λ (o : List ShardGroup). getD o i d) eo ∙ next-unchanged collect-shard-group d gs i in
+    ap (λ (x : Group). set out i (record { shard = getD out i d .shard; group = x })) eg
+    ∙ ap₂ (λ (o : List ShardGroup) (x : ShardGroup). set o i (collect-shard-group x)) eo r ∙ first-more collect-shard-group d gs i h
 
 -- question 1, then those of the keys
 module _ (ks : Keys) (c : Cache) where

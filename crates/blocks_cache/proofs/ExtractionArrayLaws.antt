@@ -7,7 +7,7 @@ use Prim.Native.Nat.{_+_, _-_, _<_, _≤_, suc, zero, ℕ}
 use native.Mathlib.Nat.{le-of-suc-le-suc, suc-inj}
 use native.Mathlib.Omega.{arith}
 use lib.ListN.{drop, drop-of-length-le, getD, length, length-append, length-drop, length-take, replicate, set, take}
-use lib.Seq.{drop-cons, getD-take, length-take-le, set-at, take-all}
+use lib.Seq.{drop-cons, getD-at, getD-take, length-take-le, set-at, take-all}
 use Rattle.block_records.specs.declared.block_id.BlockId.{BlockId}
 use Rattle.block_records.specs.declared.block_id.ShardIdent.{ShardIdent}
 use Rattle.blocks_cache.specs.declared.cache.ShardGroup.{ShardGroup}
@@ -127,6 +127,12 @@ module _ (i : BlockId) (idents : List ShardIdent) (seqnos : List GroupSeqnos) (k
 -- ===== a loop that fills an array in place with the list t, at place i =====
 
 module _ {A : Type 0} where
+  -- what stands at the place is still the list's
+  pub in-place-read : (l t out : List A) (i : ℕ) (d : A) → out ≡ take i t ++ drop i l → i < length t → length t ≡ length l → getD out i d ≡ getD l i d
+  in-place-read l t out i d o h m =
+      let a : length (take i t) ≡ i = length-take-le i t (omega arith) in
+      rw (o, drop-next l i d (omega arith)) (getD-at (take i t) (getD l i d) (drop (i + 1) l) d i a)
+
   pub in-place-next : (l t out : List A) (i : ℕ) (v d : A) → out ≡ take i t ++ drop i l → v ≡ getD t i d → i < length t → length t ≡ length l →
       set out i v ≡ take (i + 1) t ++ drop (i + 1) l
   in-place-next l t out i v d o e h m =
@@ -149,6 +155,16 @@ getD-compact [] ss i d g s h e = absurd (omega arith)
 getD-compact (x ∷ gs) [] i d g s h e = absurd (omega arith)
 getD-compact (x ∷ gs) (y ∷ ss) zero d g s h e = refl
 getD-compact (x ∷ gs) (y ∷ ss) (suc i) d g s h e = getD-compact gs ss i d g s (le-of-suc-le-suc h) (suc-inj e)
+
+-- one group more is compacted; x and y are what the arrays would give past their ends
+pub compacted-next : (gs : List ShardGroup) (ss : List GroupSeqnos) (out : List ShardGroup) (i : ℕ) (v x : ShardGroup) (y : GroupSeqnos) →
+    out ≡ take i (compact-shards gs ss) ++ drop i gs → i < length gs → length gs ≡ length ss → v ≡ compact-shard (getD out i x) (getD ss i y) →
+    set out i v ≡ take (i + 1) (compact-shards gs ss) ++ drop (i + 1) gs
+compacted-next gs ss out i v x y o h m e =
+    let n = length-compact gs ss m in
+    let r = in-place-read gs (compact-shards gs ss) out i x o (omega arith) n in
+    in-place-next gs (compact-shards gs ss) out i v x o
+    (e ∙ ap (λ (g : ShardGroup). compact-shard g (getD ss i y)) r ∙ sym (getD-compact gs ss i x x y (omega arith) (omega arith))) (omega arith) n
 
 -- ===== the last first =====
 

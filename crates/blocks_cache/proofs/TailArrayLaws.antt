@@ -24,7 +24,7 @@ use Rattle.block_records.proofs.BlockIdLaws.{id-order, shard-order}
 use Rattle.block_records.proofs.LoopLaws.{take-more}
 use Rattle.block_records.proofs.OrderLaws.{asym}
 use Rattle.block_records.proofs.ScanLaws.{few-listed}
-use Rattle.block_records.proofs.Tests.{clash, on}
+use Rattle.block_records.proofs.Tests.{clash, on, or-left, or-right}
 use Rattle.block_records.specs.Arrays.{Splices, spliced}
 use Rattle.block_records.specs.BlockIds.{listed-prev-ids, same-id, same-shard}
 use Rattle.block_records.specs.EntryLayout.{pack-prev-ids}
@@ -42,14 +42,6 @@ picked b x y t = rw t
 
 pub passed : {A : Type 0} (b : Bool) (x y : A) → b ≡ false → y ≡ pick b x y
 passed b x y t = rw t
-
-or-left : (a b : Bool) → a || b ≡ false → a ≡ false
-or-left true b h = h
-or-left false b h = refl
-
-or-right : (a b : Bool) → a || b ≡ false → b ≡ false
-or-right true b h = clash {b = true} refl h
-or-right false b h = h
 
 -- ===== what an id gives and queues =====
 

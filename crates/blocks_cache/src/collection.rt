@@ -128,7 +128,7 @@ fn collect_shards(shards: [ShardGroup; 8], count: usize) -> [ShardGroup; 8]
         if count <= i {
             return out;
         }
-        let known = shards[i];
+        let known = out[i];
         let shard = known.shard;
         let group = collect_group(known.group);
         out[i] = ShardGroup { shard, group };

@@ -170,7 +170,7 @@ fn compact_shards(shards: [ShardGroup; 8], seqnos: [GroupSeqnos; 8]) -> [ShardGr
     let mut out = shards;
     let mut i: usize = 0;
     while i < 8 {
-        out[i] = compact_shard(shards[i], seqnos[i]);
+        out[i] = compact_shard(out[i], seqnos[i]);
         i += 1;
     }
     out

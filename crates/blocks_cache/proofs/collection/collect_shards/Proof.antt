@@ -12,12 +12,12 @@ use Rattle.blocks_cache.proofs.collection.collect_shards.Statement.{sta
 use Rattle.blocks_cache.proofs.collection.collect_shards.Tie as tie
 
 abbrev Inv-loop : tie.InvT-loop
-Inv-loop count shards out₀ i₀ out i = (i ≤ 8) × ((i ≤ count) × (out ≡ changed-first i collect-shard-group shards))
+Inv-loop count out₀ i₀ out i = (i ≤ 8) × ((i ≤ count) × (out ≡ changed-first i collect-shard-group out₀))
 
 abbrev μ-loop : tie.MeasureT-loop
-μ-loop count shards out₀ i₀ out i = 8 - i
+μ-loop count out₀ i₀ out i = 8 - i
 
-long : (c : tie.Start Inv-loop μ-loop) → length (c .args .t1) ≡ 8
+long : (c : tie.Start Inv-loop μ-loop) → length (c .args .shards) ≡ 8
 long c = search (needs, length-mapped)
 
 loop-holds : tie.Need-loop-holds Inv-loop μ-loop
@@ -58,7 +58,7 @@ loop-again c =
     let s = h .before in
     let n = long s in
     let l = u .before .loop-test .taken in
-    (search needs, (search needs, collected-next _ (s .args .t1) (h .loop .i) (omega arith) (h .loop .out) (h .loop .inv .1 .1) _ (c .collect-group .ensures)))
+    (search needs, (search needs, collected-next _ (s .args .shards) (h .loop .i) (omega arith) (h .loop .out) (h .loop .inv .1 .1) _ (c .collect-group .ensures)))
 
 returns-2 : tie.Need-returns-2 Inv-loop μ-loop
 returns-2 c =
@@ -66,7 +66,7 @@ returns-2 c =
     let s = h .before in
     let n = long s in
     let l = c .loop-test .left in
-    h .loop .inv .1 .1 ∙ first-over collect-shard-group (s .args .t1) (h .loop .i) (s .args .count) (omega arith) (omega (arith, h .loop .inv .1 .0))
+    h .loop .inv .1 .1 ∙ first-over collect-shard-group (s .args .shards) (h .loop .i) (s .args .count) (omega arith) (omega (arith, h .loop .inv .1 .0))
 
 pub collect-shards-spec : {M : Type 1} → statement M
 collect-shards-spec =

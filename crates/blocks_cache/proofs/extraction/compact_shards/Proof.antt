@@ -7,19 +7,18 @@ use borrow.Author.Needs.{needs}
 use lib.ListN.{length, take, drop}
 use Rattle.block_records.proofs.LoopLaws.{length-mapped}
 use mathlib.Core.List.{_++_}
-use Rattle.blocks_cache.specs.CacheLayout.{zero-shard-group}
 use Rattle.blocks_cache.specs.ExtractionArrays.{compact-shards}
-use Rattle.blocks_cache.proofs.ExtractionArrayLaws.{getD-compact, in-place-end, in-place-next, length-compact}
+use Rattle.blocks_cache.proofs.ExtractionArrayLaws.{compacted-next, in-place-end, length-compact}
 use Rattle.blocks_cache.proofs.extraction.compact_shards.Statement.{statement}
 use Rattle.blocks_cache.proofs.extraction.compact_shards.Tie as tie
 
 abbrev Inv-loop : tie.InvT-loop
-Inv-loop shards seqnos out₀ i₀ out i = (i ≤ 8) × (out ≡ take i (compact-shards shards seqnos) ++ drop i shards)
+Inv-loop seqnos out₀ i₀ out i = (i ≤ 8) × (out ≡ take i (compact-shards out₀ seqnos) ++ drop i out₀)
 
 abbrev μ-loop : tie.MeasureT-loop
-μ-loop shards seqnos out₀ i₀ out i = 8 - i
+μ-loop seqnos out₀ i₀ out i = 8 - i
 
-len : (c : tie.Start Inv-loop μ-loop) → length (c .args .t1) ≡ 8
+len : (c : tie.Start Inv-loop μ-loop) → length (c .args .shards) ≡ 8
 len c = search (needs, length-mapped)
 
 tables : (c : tie.Start Inv-loop μ-loop) → length (c .args .t2) ≡ 8
@@ -61,8 +60,7 @@ loop-again c =
     let s = h .before in
     let l = len s in
     let k = tables s in
-    let n = length-compact (s .args .t1) (s .args .t2) (omega arith) in
-    (search needs, in-place-next (s .args .t1) (compact-shards (s .args .t1) (s .args .t2)) (h .loop .out) (h .loop .i) _ zero-shard-group (h .loop .inv .1) (c .compact-shard .ensures ∙ sym (getD-compact (s .args .t1) (s .args .t2) (h .loop .i) _ _ _ (omega arith) (omega arith))) (omega arith) n)
+    (search needs, compacted-next (s .args .shards) (s .args .t2) (h .loop .out) (h .loop .i) _ _ _ (h .loop .inv .1) (omega arith) (omega arith) (c .compact-shard .ensures))
 
 returns : tie.Need-returns Inv-loop μ-loop
 returns c =
@@ -70,9 +68,9 @@ returns c =
     let s = h .before in
     let l = len s in
     let k = tables s in
-    let n = length-compact (s .args .t1) (s .args .t2) (omega arith) in
+    let n = length-compact (s .args .shards) (s .args .t2) (omega arith) in
     let t = c .loop-test .left in
-    in-place-end (s .args .t1) (compact-shards (s .args .t1) (s .args .t2)) (h .loop .out) (h .loop .i) (h .loop .inv .1) (omega arith) n
+    in-place-end (s .args .shards) (compact-shards (s .args .shards) (s .args .t2)) (h .loop .out) (h .loop .i) (h .loop .inv .1) (omega arith) n
 
 pub compact-shards-spec : {M : Type 1} → statement M
 compact-shards-spec =
