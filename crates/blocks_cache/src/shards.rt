@@ -53,12 +53,24 @@ pub(crate) fn ident_place(idents: [ShardIdent; 8], count: usize, shard: ShardIde
     Place::Vacant(i)
 }
 
-// Where a shard's group stands, or the place where it would go in.
+// Where a shard's group stands, or the place where it would go in. For one search: a loop gathers the shards and asks `ident_place`.
 pub fn find_shard(groups: [ShardGroup; 8], count: usize, shard: ShardIdent) -> Place
     ensures { λ r. ⌜ r ≡ shard-place shard count groups ⌝ }
 {
-    let idents = shard_idents(groups);
-    ident_place(idents, count, shard)
+    let listed = listed_count(count, 8);
+    let mut i: usize = 0;
+    while i < listed {
+        let g = groups[i];
+        let x = g.shard;
+        if !less_shard(x, shard) {
+            if same_shard(x, shard) {
+                return Place::At(i);
+            }
+            return Place::Vacant(i);
+        }
+        i += 1;
+    }
+    Place::Vacant(i)
 }
 
 // The groups from a place on moved one place further, and the given one put there.
