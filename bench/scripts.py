@@ -2,7 +2,8 @@
 """scripts.py: the names of the benchmark's rows, one to a line. scripts.py ROW N: the row's script in the replay language (docs/REPLAY.md), its last line the call that is timed, N times.
 
 A cache of n has n masters, 8 shard groups of n blocks and 2 n last collated ids, all collated and received: empty is 0, half-full 8, full 16. Block k of a shard follows block k - 1
-and names master k, whose tops are the blocks k of all shards. Of the last master's subgraph more can be given: its tops, and how many blocks of each shard name it.
+and names master k, whose tops are the blocks k of all shards. Of the last master's subgraph more can be given: its tops, how many blocks of each shard name it, and whether a
+block follows the two before it.
 """
 import sys
 
@@ -22,20 +23,20 @@ def block_id(shard, k):
     return f'{key(shard, k)}:{spread(0x9e3779b97f4a7c15)}:{spread(0xc2b2ae3d27d4eb4f)}'
 
 
-def previous(shard, k):
-    return 'prev=' + block_id(shard, k - 1)
+def previous(shard, k, parents=1):
+    return 'prev=' + ','.join(block_id(shard, k - 1 - i) for i in range(min(parents, k)))
 
 
 def tops(shards, k):
     return 'top=' + ','.join(f'{BASE + k}/{block_id(s, k)}/1' for s in shards)
 
 
-def entry(shard, k, master, top, received):
+def entry(shard, k, master, top, received, parents=1):
     status = f'status={"Synced" if received else "Collated"} received_after={int(received)}'
-    return f'entry {block_id(shard, k)} ref={BASE + master} {previous(shard, k)} {top} anchor=7 pay=9 kind=collated {status} handle=0 weight=0 pta=7'
+    return f'entry {block_id(shard, k)} ref={BASE + master} {previous(shard, k, parents)} {top} anchor=7 pay=9 kind=collated {status} handle=0 weight=0 pta=7'
 
 
-def cache(n, without=None, topped=8, depth=1, boundary=None, received=True):
+def cache(n, without=None, topped=8, depth=1, boundary=None, received=True, parents=1):
     """The lines that load a cache of n; without the last entry of one group, where a shard is given."""
     bound = lambda shard: key(shard, boundary) if boundary else '-'
     masters = [k for k in range(1, n + 1) if (without, k) != (MASTERCHAIN, n)]
@@ -46,7 +47,7 @@ def cache(n, without=None, topped=8, depth=1, boundary=None, received=True):
     for shard in SHARDS if n else []:
         lines.append(f'shard {shard} mark=- boundary={bound(shard)}')
         named = lambda k: n if n - depth < k else k
-        lines += [entry(shard, k, named(k), 'top=-', received) for k in range(1, n + 1) if (without, k) != (shard, n)]
+        lines += [entry(shard, k, named(k), 'top=-', received, parents) for k in range(1, n + 1) if (without, k) != (shard, n)]
     return lines + ['end']
 
 
@@ -77,6 +78,7 @@ def rows():
     yield 'sync of 64 blocks', cache(16, depth=8) + [f'sync {last}']
     yield 'tail_ids, chain of 16', cache(16, topped=1, depth=16) + [f'tail_ids {key(MASTERCHAIN, 16)}']
     yield 'tail_ids, 128 blocks', cache(16, depth=16) + [f'tail_ids {key(MASTERCHAIN, 16)}']
+    yield 'tail_ids, 128 blocks of two parents', cache(16, depth=16, parents=2) + [f'tail_ids {key(MASTERCHAIN, 16)}']
     yield 'boundary, 9 keys, full cache', cache(16) + [f'boundary {keys(9)}']
     yield 'collect of half a full cache', cache(16, boundary=9) + ['collect']
     yield 'remove_next of half a full cache', cache(16) + [f'remove_next {keys(8)}']

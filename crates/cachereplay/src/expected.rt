@@ -1,4 +1,5 @@
 // What a line lacks, by number, and its text.
+use crate::output::put_line_of;
 use crate::output::put_text;
 
 pub const COMMAND: u8 = 1;
@@ -97,126 +98,58 @@ pub const SLICE: u8 = 47;
 
 pub const TIMES: u8 = 48;
 
-fn put_number(out: &mut [u8], at: usize, missing: u8) -> usize {
-    match missing {
-        NUMBER_32 => put_text(out, at, b"a number below 4294967296 without spare zeros"),
-        NUMBER_64 => put_text(
-            out,
-            at,
-            b"a number below 18446744073709551616 without spare zeros",
-        ),
-        FLAG => put_text(out, at, b"0 or 1"),
-        SPACE => put_text(out, at, b"a space"),
-        END => put_text(out, at, b"the end of the line"),
-        _ => put_id(out, at, missing),
-    }
-}
-
-fn put_id(out: &mut [u8], at: usize, missing: u8) -> usize {
-    match missing {
-        SHARD => put_text(
-            out,
-            at,
-            b"a shard, WORKCHAIN:PREFIX with 16 lower-case hexadecimal digits",
-        ),
-        KEY => put_text(out, at, b"a key, SHARD:SEQNO"),
-        ID => put_text(
-            out,
-            at,
-            b"a block id, KEY:ROOT:FILE with 64 lower-case hexadecimal digits each",
-        ),
-        TOP => put_text(out, at, b"a top item, REF/ID/0 or REF/ID/1"),
-        RANGE => put_text(out, at, b"a range, START..END"),
-        _ => put_store_field(out, at, missing),
-    }
-}
-
-fn put_store_field(out: &mut [u8], at: usize, missing: u8) -> usize {
-    match missing {
-        REF => put_text(out, at, b"' ref='"),
-        PREV => put_text(out, at, b"' prev='"),
-        TOPS => put_text(out, at, b"' top='"),
-        ANCHOR => put_text(out, at, b"' anchor='"),
-        PAY => put_text(out, at, b"' pay='"),
-        _ => put_call_word(out, at, missing),
-    }
-}
-
-fn put_call_word(out: &mut [u8], at: usize, missing: u8) -> usize {
-    match missing {
-        PTA => put_text(out, at, b"' pta='"),
-        MC => put_text(out, at, b"' mc='"),
-        RESULT => put_text(out, at, b"complete or skipped"),
-        TIMES => put_text(out, at, b"a number of times, 1 to 4294967295"),
-        SLICE => put_text(out, at, b"a number of places, at most 160"),
-        _ => put_kind_field(out, at, missing),
-    }
-}
-
-fn put_kind_field(out: &mut [u8], at: usize, missing: u8) -> usize {
-    match missing {
-        KIND => put_text(out, at, b"' kind=collated' or ' kind=received'"),
-        STATUS => put_text(out, at, b"Collated, Validated, ValidationSkipped or Synced"),
-        RECEIVED_AFTER => put_text(out, at, b"' received_after='"),
-        COLLATED_AFTER => put_text(out, at, b"' collated_after='"),
-        ADDITIONAL => put_text(out, at, b"' additional='"),
-        _ => put_group_field(out, at, missing),
-    }
-}
-
-fn put_group_field(out: &mut [u8], at: usize, missing: u8) -> usize {
-    match missing {
-        HANDLE => put_text(out, at, b"' handle='"),
-        WEIGHT => put_text(out, at, b"' weight='"),
-        MARK => put_text(out, at, b"' mark='"),
-        BOUNDARY => put_text(out, at, b"' boundary='"),
-        RANGE_FIELD => put_text(out, at, b"' range='"),
-        _ => put_count_field(out, at, missing),
-    }
-}
-
-fn put_count_field(out: &mut [u8], at: usize, missing: u8) -> usize {
-    match missing {
-        COUNT => put_text(out, at, b"' count='"),
-        ZEROSTATE => put_text(out, at, b"' zerostate='"),
-        IDS_FIELD => put_text(out, at, b"' ids='"),
-        SHARDS_FIELD => put_text(out, at, b"' shards='"),
-        PREV_COUNT => put_text(out, at, b"' prev_count='"),
-        _ => put_load_line(out, at, missing),
-    }
-}
-
-fn put_load_line(out: &mut [u8], at: usize, missing: u8) -> usize {
-    match missing {
-        IN_LOAD => put_text(out, at, b"a line of a dump, since load waits for its end"),
-        NO_LOAD => put_text(out, at, b"load before a line of a dump"),
-        NO_SHARD => put_text(out, at, b"masters or shard before entry"),
-        NO_TOPS => put_text(out, at, b"top=-, since a shard block has no top item"),
-        ROOM => put_text(out, at, b"no more than the list has places for"),
-        _ => put_place(out, at, missing),
-    }
-}
-
-fn put_place(out: &mut [u8], at: usize, missing: u8) -> usize {
-    match missing {
-        PLACE => put_text(out, at, b"a place that the list has"),
-        GROUP => put_text(out, at, b"m or a shard's place, 0 to 7"),
-        TWO_IDS => put_text(out, at, b"two ids"),
-        EIGHT_TOPS => put_text(out, at, b"eight top items"),
-        LENGTH => put_text(out, at, b"at most 8192 bytes"),
-        _ => put_command(out, at, missing),
-    }
-}
-
-fn put_command(out: &mut [u8], at: usize, missing: u8) -> usize {
-    match missing {
-        RAW => put_text(out, at, b"head, id, group, entry, tops, slice or zero"),
-        DUMP => put_text(out, at, b"raw, slice or the end of the line"),
-        _ => put_text(out, at, b"a command (help lists them)"),
-    }
-}
-
+// The texts, from number 0 on.
 pub fn put_expected(out: &mut [u8], at: usize, missing: u8) -> usize {
+    let texts = b"a command (help lists them)
+a command (help lists them)
+a number below 4294967296 without spare zeros
+a number below 18446744073709551616 without spare zeros
+0 or 1
+a shard, WORKCHAIN:PREFIX with 16 lower-case hexadecimal digits
+a key, SHARD:SEQNO
+a block id, KEY:ROOT:FILE with 64 lower-case hexadecimal digits each
+a top item, REF/ID/0 or REF/ID/1
+a range, START..END
+a space
+the end of the line
+' ref='
+' prev='
+' top='
+' anchor='
+' pta='
+' pay='
+' mc='
+complete or skipped
+' kind=collated' or ' kind=received'
+Collated, Validated, ValidationSkipped or Synced
+' received_after='
+' handle='
+' weight='
+' collated_after='
+' additional='
+' mark='
+' boundary='
+' range='
+a place that the list has
+no more than the list has places for
+top=-, since a shard block has no top item
+a line of a dump, since load waits for its end
+load before a line of a dump
+m or a shard's place, 0 to 7
+' count='
+' zerostate='
+' ids='
+' shards='
+' prev_count='
+two ids
+eight top items
+head, id, group, entry, tops, slice or zero
+raw, slice or the end of the line
+masters or shard before entry
+at most 8192 bytes
+a number of places, at most 160
+a number of times, 1 to 4294967295
+";
     let to = put_text(out, at, b"expected ");
-    put_number(out, to, missing)
+    put_line_of(out, to, &texts[..], missing as usize)
 }

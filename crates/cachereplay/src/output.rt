@@ -42,6 +42,25 @@ pub fn put_text(out: &mut [u8], at: usize, text: &[u8]) -> usize {
     to
 }
 
+// Line `n` of a text of lines, the first being 0, without its end.
+pub fn put_line_of(out: &mut [u8], at: usize, lines: &[u8], n: usize) -> usize {
+    let mut to = at;
+    let mut line: usize = 0;
+    let mut i: usize = 0;
+    while i < lines.len() {
+        let byte = lines[i];
+        i += 1;
+        if byte == b'\n' {
+            line = plus(line, 1);
+            continue;
+        }
+        if line == n {
+            to = put(out, to, byte);
+        }
+    }
+    to
+}
+
 // In decimal.
 pub fn put_number(out: &mut [u8], at: usize, number: u64) -> usize {
     let mut digits = [0u8; 20];
