@@ -45,9 +45,11 @@ entry-under k c = entry-in (k .seqno) (shard-place (key-shard k) (c .«shard_cou
 
 -- ===== the seqnos of a group's entries =====
 
+-- no entry stands there
 unfoldable pub no-seqno-here : EntrySeqno
 no-seqno-here = record { seqno = 0; cached = false }
 
+-- the seqno of an entry that is cached
 abbrev pub seqno-here : BlockCacheEntry → EntrySeqno
 seqno-here b = record { seqno = record-seqno b; cached = true }
 
@@ -55,9 +57,11 @@ seqno-here b = record { seqno = record-seqno b; cached = true }
 abbrev pub group-seqnos : Group → GroupSeqnos
 group-seqnos g = record { entries = padded 16 no-seqno-here (each seqno-here (listed-entries g)); mark = g .mark }
 
+-- of no group
 unfoldable pub no-seqnos : GroupSeqnos
 no-seqnos = record { entries = replicate 16 no-seqno-here; mark = no-mark }
 
+-- of a shard's group
 abbrev pub shard-seqnos : ShardGroup → GroupSeqnos
 shard-seqnos g = group-seqnos (g .group)
 
@@ -67,10 +71,12 @@ shard-seqnos g = group-seqnos (g .group)
 abbrev pub cached-at : ℕ → EntrySeqno → Bool
 cached-at n x = x .cached && eqb (x .seqno) n
 
+-- in the group at place k
 abbrev pub place-in : ℕ → Found → BlockPlace
 place-in k (found-at j) = block-found k j
 place-in k (vacant-at j) = block-absent
 
+-- by where the id's shard stands
 abbrev pub place-of : BlockId → List GroupSeqnos → Found → BlockPlace
 place-of i seqnos (found-at k) = place-in k (first-place (cached-at (i .seqno)) 0 (getD seqnos k no-seqnos .entries))
 place-of i seqnos (vacant-at k) = block-absent

@@ -24,9 +24,11 @@ listed-shards n = pick (ltb n 8) n 8
 abbrev pub held-shard : ShardGroup → ShardIdent
 held-shard g = g .shard
 
+-- a lower shard
 abbrev pub ident-below : ShardIdent → ShardIdent → Bool
 ident-below s x = less-shard x s
 
+-- the shard itself
 abbrev pub ident-at : ShardIdent → ShardIdent → Bool
 ident-at s x = same-shard x s
 

@@ -95,6 +95,7 @@ put-row r t = pick (leb (length (put row-before r (listed-tails t))) 17) (with-r
 abbrev pub replaces-last : LastId → LastId → Bool
 replaces-last a h = not (h .present) || less-last a h
 
+-- the same of two rows
 abbrev pub replaces-row : TailIdsRow → TailIdsRow → Bool
 replaces-row r h = replaces-last (r .id) (h .id)
 
@@ -131,9 +132,11 @@ pub record TailStep : Type 0 where
 abbrev pub no-step : TailStep
 no-step = record { given = false; row = zero-tail; queued = zero-prev-ids }
 
+-- the row of a cached block is given, and its previous ids are queued
 abbrev pub cached-step : BlockId → PrevIds → TailStep
 cached-step i ps = record { given = true; row = cached-row i ps; queued = ps }
 
+-- the row of a missing top is given
 abbrev pub missing-step : BlockId → TailStep
 missing-step i = record { given = true; row = missing-row i; queued = zero-prev-ids }
 
