@@ -1,6 +1,6 @@
 -- Loops over the first places of an array, over any element type: a search, a test of neighbours, those that pass moved together, one put in where it stands.
 -- Assumes nothing.
-use mathlib.Core.Bool.{Bool, _&&_, false, true}
+use mathlib.Core.Bool.{Bool, _&&_, _||_, false, true}
 use mathlib.Core.List.{List, [], _++_, _∷_, append-assoc, append-nil}
 use mathlib.Core.Option.{some}
 use mathlib.Core.Path.{_∙_, _≡_, ap, ap₂, refl, sym}
@@ -53,6 +53,16 @@ module _ {A : Type 0} (p : A → Bool) (d : A) (l : List A) (count i : ℕ) wher
   -- none of them passed
   pub any-passed : count ≤ i → present (find p (left l count i)) ≡ false
   any-passed h = rw (left-passed l count i h)
+
+module _ {A : Type 0} (p : A → Bool) where
+  -- one element more
+  pub any-snoc : (xs : List A) (a : A) → present (find p (xs ++ (a ∷ []))) ≡ present (find p xs) || p a
+  any-snoc [] a = on (p a) (λ t. rw t) (λ t. rw t)
+  any-snoc (x ∷ xs) a = on (p x) (λ t. rw t) (λ t. rw t (any-snoc xs a))
+
+  -- .. of the first places; d is any element
+  pub any-more : (xs : List A) (i : ℕ) (d : A) → i < length xs → present (find p (take i xs)) || p (getD xs i d) ≡ present (find p (take (i + 1) xs))
+  any-more xs i d h = sym (ap (λ (l : List A). present (find p l)) (take-more xs i d h) ∙ any-snoc (take i xs) (getD xs i d))
 
 -- ===== a test that each element comes before the next =====
 

@@ -21,9 +21,8 @@ use Rattle.blocks_cache.specs.declared.tail_ids.TailIdsRow.{TailIdsRow}
 use Rattle.blocks_cache.specs.declared.tail_ids.TailRows.{TailRows}
 use Rattle.block_records.proofs.ArrayLaws.{getD-any, length-take-few, length-within, within-few}
 use Rattle.block_records.proofs.BlockIdLaws.{id-order, shard-order}
-use Rattle.block_records.proofs.LoopLaws.{take-more}
 use Rattle.block_records.proofs.OrderLaws.{asym}
-use Rattle.block_records.proofs.ScanLaws.{few-listed}
+use Rattle.block_records.proofs.ScanLaws.{any-snoc, few-listed}
 use Rattle.block_records.proofs.Tests.{clash, on, or-left, or-right}
 use Rattle.block_records.specs.Arrays.{Splices, spliced}
 use Rattle.block_records.specs.BlockIds.{listed-prev-ids, same-id, same-shard}
@@ -139,18 +138,13 @@ module _ (t : TailRows) (long : length (t .rows) ≡ 17) (r : TailIdsRow) (k : �
 
 -- ===== the ids that wait =====
 
--- one id more is known
-knows-snoc : (ids : List BlockId) (p q : BlockId) → knows (ids ++ (p ∷ [])) q ≡ knows ids q || same-id q p
-knows-snoc [] p q = on (same-id q p) (λ t. rw t) (λ t. rw t)
-knows-snoc (x ∷ ids) p q = on (same-id q x) (λ t. rw t) (λ t. rw t (knows-snoc ids p q))
-
 -- of two ids, by the code's tests
 two-unknown : (known : List BlockId) (p q : BlockId) (n : ℕ) →
     unknown-ids known (take n (p ∷ q ∷ [])) ≡ two-ids p (ltb 0 n && not (knows known p)) q (ltb 1 n && not (knows known q || same-id q p))
 two-unknown known p q zero = refl
 two-unknown known p q (suc zero) = on (knows known p) (λ t. rw t) (λ t. rw t)
 two-unknown known p q (suc (suc n)) =
-    let second : knows (known ++ (p ∷ [])) q ≡ knows known q || same-id q p = knows-snoc known p q in
+    let second : knows (known ++ (p ∷ [])) q ≡ knows known q || same-id q p = any-snoc (same-id q) known p in
     rw (lt-ltb 0 (suc (suc n)) (omega arith), lt-ltb 1 (suc (suc n)) (omega arith), take-nil n)
     (on (knows known p)
     (λ t. on (same-id q p)
@@ -208,14 +202,6 @@ module _ (ids : List BlockId) (long : length ids ≡ 258) (count : ℕ) (prev : 
       q ∙ ap pack-prev-ids (passed (leb (length (take count ids) + length unknown) 256) unknown [] (lt-leb (length (take count ids) + length unknown) 256 many))
 
 -- ===== fingerprints =====
-
--- one number more
-number-snoc : (ns : List ℕ) (k n : ℕ) → has-number (ns ++ (k ∷ [])) n ≡ has-number ns n || eqb k n
-number-snoc [] k n = on (eqb k n) (λ t. rw t) (λ t. rw t)
-number-snoc (x ∷ ns) k n = on (eqb x n) (λ t. rw t) (λ t. rw t (number-snoc ns k n))
-
-pub number-next : (ns : List ℕ) (i n : ℕ) → i < length ns → has-number (take i ns) n || eqb (getD ns i 0) n ≡ has-number (take (i + 1) ns) n
-number-next ns i n h = sym (ap (λ (xs : List ℕ). has-number xs n) (take-more ns i 0 h) ∙ number-snoc (take i ns) (getD ns i 0) n)
 
 -- an id whose fingerprint is not there is not known
 no-fingerprint : (i : BlockId) (ids : List BlockId) → has-number (each fingerprint ids) (fingerprint i) ≡ false → knows ids i ≡ false

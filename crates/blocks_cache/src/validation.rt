@@ -2,10 +2,10 @@
 ghost use mathlib.Core.Path.{_≡_};
 ghost use Rattle.blocks_cache.specs.Calls.{store-validation, unlent};
 ghost use Rattle.blocks_cache.specs.CacheLayout.{call-on};
+ghost use Rattle.blocks_cache.specs.CacheParts.{with-master-group};
 ghost use Rattle.blocks_cache.specs.Effects.{result-status, result-handle, result-weight, validated-kind};
 ghost use Rattle.blocks_cache.specs.Validations.{view-validation, pack-kind, validate-master, validation-outcome};
 use crate::cache::Cache;
-use crate::parts::with_masters;
 use crate::soundness::sound_cache;
 use block_records::block_id::BlockId;
 use block_records::entry::BlockCacheEntryData;
@@ -14,6 +14,7 @@ use block_records::entry::MasterBlock;
 use block_records::entry::same_status;
 use block_records::entry::with_data;
 use block_records::questions::id_fits;
+use blocks_group::group::MasterGroup;
 use blocks_group::group::master_at;
 use blocks_group::group::put_master;
 use blocks_group::search::Found;
@@ -114,6 +115,21 @@ fn validated_kind(status: ValidationStatus, data: BlockCacheEntryData) -> Valida
     ValidatedKind {
         changed: true,
         data: set,
+    }
+}
+
+// The cache with other masters.
+fn with_masters(cache: Cache, masters: MasterGroup) -> Cache
+    ensures { λ r. ⌜ r ≡ with-master-group masters cache ⌝ }
+{
+    let data = cache.data;
+    let shards = cache.shards;
+    Cache {
+        zerostate_mc_seqno: cache.zerostate_mc_seqno,
+        masters,
+        data,
+        shards,
+        shard_count: cache.shard_count,
     }
 }
 

@@ -9,7 +9,7 @@ use lib.ListN.{getD, length, take}
 use lib.Seq.{take-all}
 use borrow.Author.Needs.{needs}
 use Rattle.blocks_cache.specs.TailArrays.{has-number}
-use Rattle.blocks_cache.proofs.TailArrayLaws.{number-next}
+use Rattle.block_records.proofs.ScanLaws.{any-more}
 use Rattle.blocks_cache.proofs.tail_ids.has_number.Statement.{statement}
 use Rattle.blocks_cache.proofs.tail_ids.has_number.Tie as tie
 
@@ -38,7 +38,7 @@ loop-again : tie.Need-loop-again Inv-loop μ-loop
 loop-again c =
     let h = c .before .before in
     let s = h .before in
-    (search needs, ap (λ b. b || eqb (getD (s .args .numbers .now) (h .loop .i) 0) (s .args .number)) (h .loop .inv .1) ∙ number-next (s .args .numbers .now) (h .loop .i) (s .args .number) (search needs))
+    (search needs, ap (λ b. b || eqb (getD (s .args .numbers .now) (h .loop .i) 0) (s .args .number)) (h .loop .inv .1) ∙ any-more (λ x. eqb x (s .args .number)) (s .args .numbers .now) (h .loop .i) 0 (search needs))
 
 returns : tie.Need-returns Inv-loop μ-loop
 returns c =
