@@ -1,7 +1,7 @@
 -- Lists that stand in arrays, over any element type: the first places, what stands at a place, and one turn of each kind of loop that fills an array.
 -- Assumes nothing.
 use mathlib.Core.Bool.{Bool, false, true}
-use mathlib.Core.List.{List, [], _++_, _∷_, append-nil}
+use mathlib.Core.List.{List, [], _++_, _∷_, append-assoc, append-nil}
 use mathlib.Core.Path.{_∙_, _≡_, ap, refl, subst, sym}
 use Prim.Native.Nat.{_+_, _-_, _<_, _≤_, suc, zero, ℕ}
 use native.Mathlib.Nat.{le-refl}
@@ -67,6 +67,26 @@ module _ {A : Type 0} where
   pub length-padded : (n : ℕ) (z : A) (xs : List A) → length xs ≤ n → length (padded n z xs) ≡ n
   unfolding padded
   length-padded n z xs h = simp (length-append, length-replicate) (omega arith)
+
+  -- it is no shorter than its list
+  pub padded-longer : (n : ℕ) (z : A) (xs : List A) → length xs ≤ length (padded n z xs)
+  unfolding padded
+  padded-longer n z xs = omega (arith, length-append xs (replicate (n - length xs) z))
+
+  -- a z more in the places that are left
+  pub padded-zero : (n : ℕ) (z : A) (xs : List A) → length xs < n → padded n z (xs ++ (z ∷ [])) ≡ padded n z xs
+  unfolding padded
+  padded-zero n z xs h =
+      let l = length-append xs (z ∷ []) in
+      let e : n - length xs ≡ suc (n - length (xs ++ (z ∷ []))) = omega arith in
+      rw e (append-assoc xs (z ∷ []) (replicate (n - length (xs ++ (z ∷ []))) z))
+
+  -- two places; d and e are any elements
+  pub two-places : (xs : List A) (d e : A) → length xs ≡ 2 → xs ≡ getD xs 0 d ∷ getD xs 1 e ∷ []
+  two-places [] d e h = absurd (omega arith)
+  two-places (x ∷ []) d e h = absurd (omega arith)
+  two-places (x ∷ y ∷ []) d e h = refl
+  two-places (x ∷ y ∷ z ∷ zs) d e h = absurd (omega arith)
 
   -- its first places are the list
   pub take-padded-at : (n : ℕ) (z : A) (xs : List A) (k : ℕ) → length xs ≡ k → take k (padded n z xs) ≡ xs

@@ -23,7 +23,7 @@ use Rattle.blocks_cache.specs.declared.lookup.BlockPlace.the-variants.{A
 use Rattle.blocks_cache.specs.declared.lookup.EntrySeqno.{EntrySeqno}
 use Rattle.blocks_cache.specs.declared.lookup.GroupSeqnos.{GroupSeqnos}
 use Rattle.blocks_group.specs.declared.search.Found.the-variants.{At as found-at}
-use Rattle.block_records.proofs.ArrayLaws.{all-getD, getD-any, length-padded, length-take-few, take-padded-at}
+use Rattle.block_records.proofs.ArrayLaws.{all-getD, getD-any, length-padded, length-take-few, take-padded-at, two-places}
 use Rattle.block_records.proofs.EntryLayoutLaws.{take-padded}
 use Rattle.block_records.proofs.ListLaws.{length-each, length-filter}
 use Rattle.block_records.proofs.LoopLaws.{drop-next, padded-nil, set-padded}
@@ -63,13 +63,6 @@ times-more : (k m : ℕ) (w : Walk) → take-times (suc k) m w ≡ take-one m (t
 times-more zero m w = refl
 times-more (suc k) m w = times-more k m (take-one m w)
 
--- the two places of an array of two
-two-is : {A : Type 0} (l : List A) (d : A) → length l ≡ 2 → l ≡ getD l 0 d ∷ getD l 1 d ∷ []
-two-is [] d e = absurd (omega arith)
-two-is (x ∷ []) d e = absurd (omega arith)
-two-is (x ∷ y ∷ []) d e = refl
-two-is (x ∷ y ∷ z ∷ zs) d e = absurd (omega arith)
-
 -- of two elements as many count as there are
 two-taken : {A : Type 0} (x y : A) (z : A) (ps r : List A) → padded 2 z ps ≡ x ∷ y ∷ [] → length ps ≤ 2 → take (length ps) (x ∷ y ∷ r) ≡ ps
 unfolding padded
@@ -102,7 +95,7 @@ queued l n head ps d h k two =
     let p : List BlockId = take n l in
     let e : length p ≡ n = length-take-le n l (omega arith) in
     let f : n + length ps ≡ length p + length ps = omega arith in
-    let t = two-taken x y zero-id ps (drop (n + 2) l) (two-is (padded 2 zero-id ps) d (length-padded 2 zero-id ps two)) two in
+    let t = two-taken x y zero-id ps (drop (n + 2) l) (two-places (padded 2 zero-id ps) d d (length-padded 2 zero-id ps two)) two in
     ap (λ (s : List BlockId). drop head (take (n + length ps) s)) (written-pair l n x y h)
     ∙ ap (λ (j : ℕ). drop head (take j (p ++ (x ∷ y ∷ drop (n + 2) l)))) f
     ∙ ap (drop head) (take-append-add p (x ∷ y ∷ drop (n + 2) l) (length ps) ∙ ap (λ (s : List BlockId). p ++ s) t)

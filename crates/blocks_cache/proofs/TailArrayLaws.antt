@@ -19,7 +19,7 @@ use Rattle.blocks_cache.specs.declared.place.Place.{Place}
 use Rattle.blocks_cache.specs.declared.place.Place.the-variants.{At as place-at, Vacant as place-vacant}
 use Rattle.blocks_cache.specs.declared.tail_ids.TailIdsRow.{TailIdsRow}
 use Rattle.blocks_cache.specs.declared.tail_ids.TailRows.{TailRows}
-use Rattle.block_records.proofs.ArrayLaws.{getD-any, length-take-few, length-within, within-few}
+use Rattle.block_records.proofs.ArrayLaws.{getD-any, length-take-few, length-within, two-places, within-few}
 use Rattle.block_records.proofs.BlockIdLaws.{id-order, shard-order}
 use Rattle.block_records.proofs.OrderLaws.{asym}
 use Rattle.block_records.proofs.ScanLaws.{any-snoc, few-listed}
@@ -151,13 +151,6 @@ two-unknown known p q (suc (suc n)) =
     (λ u. let e : knows known q ≡ true = rw (id-order .same-eq q p u) t in rw (t, e))
     (λ u. on (knows known q) (λ v. rw (t, u, v)) (λ v. rw (t, u, v))))
     (λ t. rw (t, second) (on (knows known q || same-id q p) (λ u. rw u) (λ u. rw u))))
-
--- an array of two places
-two-places : {A : Type 0} (xs : List A) (d e : A) → length xs ≡ 2 → xs ≡ getD xs 0 d ∷ getD xs 1 e ∷ []
-two-places [] d e h = absurd (omega arith)
-two-places (x ∷ []) d e h = absurd (omega arith)
-two-places (x ∷ y ∷ []) d e h = refl
-two-places (x ∷ y ∷ z ∷ zs) d e h = absurd (omega arith)
 
 two-few : (a : BlockId) (f : Bool) (b : BlockId) (g : Bool) → length (two-ids a f b g) ≤ 2
 two-few a true b true = omega arith

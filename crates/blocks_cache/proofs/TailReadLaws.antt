@@ -23,7 +23,7 @@ use Rattle.blocks_cache.specs.declared.place.Place.the-variants.{At as p
 use Rattle.blocks_cache.specs.declared.tail_ids.TailAnswer.the-variants.{Refused as tails-refused, Rows as tails-given}
 use Rattle.blocks_cache.specs.declared.tail_ids.TailIds.{TailIds}
 use Rattle.blocks_cache.specs.declared.tail_ids.TailIdsRow.{TailIdsRow}
-use Rattle.block_records.proofs.ArrayLaws.{each-put, getD-any, getD-each}
+use Rattle.block_records.proofs.ArrayLaws.{each-put, getD-any, getD-each, padded-longer}
 use Rattle.block_records.proofs.BlockIdLaws.{shard-order}
 use Rattle.block_records.proofs.EntryLayoutLaws.{take-padded, view-pack-prev-ids, view-pack-tops}
 use Rattle.block_records.proofs.Finds.{find-member}
@@ -49,7 +49,7 @@ use Rattle.blocks_cache.proofs.TailAnswer.{at-most-17, done-fits, ended
 use Rattle.blocks_cache.proofs.TailArrayLaws.{passed, picked, row-level, row-once}
 use Rattle.blocks_cache.proofs.TailLevels.{flat-map-append}
 use Rattle.blocks_cache.proofs.TailRows.{fold-append, fold-rising}
-use Rattle.blocks_cache.proofs.TailWalkLaws.{padded-longer, queue-passed}
+use Rattle.blocks_cache.proofs.TailWalkLaws.{queue-passed}
 use Rattle.blocks_cache.specs.CacheLayout.{call-on, pack, pack-outcome, sound-cache, view}
 use Rattle.blocks_cache.specs.Calls.{Call, Effect, TailRow, done, read-tail-ids, refused, tail-ids, unlent}
 use Rattle.blocks_cache.specs.CaseCalls.{slice}

@@ -23,7 +23,7 @@ use Rattle.blocks_cache.specs.declared.tail_ids.TailWalk.{TailWalk}
 use Rattle.blocks_group.specs.declared.group.MasterAt.{MasterAt}
 use Rattle.blocks_group.specs.declared.search.Found.{Found}
 use Rattle.blocks_group.specs.declared.search.Found.the-variants.{At as found-at, Vacant as vacant-at}
-use Rattle.block_records.proofs.ArrayLaws.{each-append, getD-any, length-padded, take-padded-at}
+use Rattle.block_records.proofs.ArrayLaws.{each-append, getD-any, length-padded, padded-longer, padded-zero, take-padded-at}
 use Rattle.block_records.proofs.EntryLayoutLaws.{take-padded}
 use Rattle.block_records.proofs.ListLaws.{length-each}
 use Rattle.block_records.proofs.LoopLaws.{left, left-more, left-passed, left-start, padded-nil, set-padded}
@@ -42,19 +42,6 @@ use Rattle.blocks_group.proofs.GroupLoopLaws.{walk}
 use Rattle.blocks_group.specs.GroupArrays.{answered-master, master-at, when-found}
 
 -- ===== the ids that wait, in their array =====
-
--- a zero more in the places that are left
-padded-zero : {A : Type 0} (n : ℕ) (z : A) (xs : List A) → length xs < n → padded n z (xs ++ (z ∷ [])) ≡ padded n z xs
-unfolding padded
-padded-zero n z xs h =
-    let l = length-append xs (z ∷ []) in
-    let e : n - length xs ≡ suc (n - length (xs ++ (z ∷ []))) = omega arith in
-    rw e (append-assoc xs (z ∷ []) (replicate (n - length (xs ++ (z ∷ []))) z))
-
--- an array is no shorter than its list
-pub padded-longer : {A : Type 0} (n : ℕ) (z : A) (xs : List A) → length xs ≤ length (padded n z xs)
-unfolding padded
-padded-longer n z xs = omega (arith, length-append xs (replicate (n - length xs) z))
 
 -- two that are written after those that stand there; z is a zero
 module _ {A : Type 0} (z : A) (known : List A) (few : length known ≤ 256) where
