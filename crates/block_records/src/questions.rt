@@ -1,14 +1,17 @@
 // Document 01, The gatekeeper's questions: 2 to 4 of a record and of keys, in the order asked.
 ghost use mathlib.Core.Path.{_≡_};
-ghost use Rattle.block_records.specs.BlockIds.{listed-prev-ids, listed-tops, listed-keys};
-ghost use Rattle.block_records.specs.Questions.{seqno-fits, id-fits, key-fits, top-fits, seqnos-fit, counts-fit, previous-fits, top-outside, links-fit, keys-fit, candidate-questions, received-questions, entry-questions, keys-questions, record-questions, first-no, pack-refusal, held-fits};
-ghost use Rattle.block_records.specs.Zeros.{zero-tops};
-ghost use Rattle.block_records.specs.Lists.{all};
+ghost use Rattle.block_records.specs.layout.Questions.{held-entry-fits, held-shard-entry-fits};
+ghost use Rattle.block_records.specs.rules.BlockId.{listed-keys, listed-prev-ids, listed-tops};
+ghost use Rattle.block_records.specs.rules.Lists.{every};
+ghost use Rattle.block_records.specs.rules.Questions.{candidate-refusal, counts-fit, id-fits, key-fits, keys-fit, keys-refusal, links-fit, previous-fits, received-refusal, record-refusal, seqno-fits, seqnos-fit, top-fits, top-outside};
 use crate::block_id::BlockId;
 use crate::block_id::BlockIdShort;
 use crate::block_id::id_shard;
 use crate::block_id::is_masterchain;
 use crate::entry::BlockCacheEntry;
+use crate::limits::KEYS_LIMIT;
+use crate::limits::PREV_IDS_LIMIT;
+use crate::limits::TOPS_LIMIT;
 use crate::store_records::BlockCandidate;
 use crate::store_records::Keys;
 use crate::store_records::PrevIds;
@@ -52,12 +55,12 @@ fn top_fits(top: TopBlock) -> bool
 
 // Places beyond the count are not looked at; of a count beyond the capacity, all places are.
 fn prev_ids_fit(prev: PrevIds) -> bool
-    ensures { λ r. ⌜ r ≡ all id-fits (listed-prev-ids prev) ⌝ }
+    ensures { λ r. ⌜ r ≡ every id-fits (listed-prev-ids prev) ⌝ }
 {
     let ids = prev.ids;
     let count = prev.count;
     let mut i: usize = 0;
-    while i < 2 {
+    while i < PREV_IDS_LIMIT {
         if count <= i {
             return true;
         }
@@ -71,12 +74,12 @@ fn prev_ids_fit(prev: PrevIds) -> bool
 }
 
 fn tops_fit(tops: TopBlocks) -> bool
-    ensures { λ r. ⌜ r ≡ all top-fits (listed-tops tops) ⌝ }
+    ensures { λ r. ⌜ r ≡ every top-fits (listed-tops tops) ⌝ }
 {
     let items = tops.items;
     let count = tops.count;
     let mut i: usize = 0;
-    while i < 8 {
+    while i < TOPS_LIMIT {
         if count <= i {
             return true;
         }
@@ -107,7 +110,7 @@ pub fn keys_fit(given: Keys) -> bool
     let keys = given.keys;
     let count = given.count;
     let mut i: usize = 0;
-    while i < 9 {
+    while i < KEYS_LIMIT {
         if count <= i {
             return true;
         }
@@ -126,8 +129,8 @@ pub fn keys_fit(given: Keys) -> bool
 pub fn counts_fit(id: BlockId, previous: usize, tops: usize) -> bool
     ensures { λ r. ⌜ r ≡ counts-fit id previous tops ⌝ }
 {
-    let p = previous <= 2;
-    let t = tops <= 8;
+    let p = previous <= PREV_IDS_LIMIT;
+    let t = tops <= TOPS_LIMIT;
     let shard = id_shard(id);
     let m = is_masterchain(shard);
     let none = tops == 0;
@@ -157,12 +160,12 @@ fn top_outside(top: TopBlock) -> bool
 }
 
 fn prev_links_fit(id: BlockId, prev: PrevIds) -> bool
-    ensures { λ r. ⌜ r ≡ all (previous-fits id) (listed-prev-ids prev) ⌝ }
+    ensures { λ r. ⌜ r ≡ every (previous-fits id) (listed-prev-ids prev) ⌝ }
 {
     let ids = prev.ids;
     let count = prev.count;
     let mut i: usize = 0;
-    while i < 2 {
+    while i < PREV_IDS_LIMIT {
         if count <= i {
             return true;
         }
@@ -176,12 +179,12 @@ fn prev_links_fit(id: BlockId, prev: PrevIds) -> bool
 }
 
 fn tops_outside(tops: TopBlocks) -> bool
-    ensures { λ r. ⌜ r ≡ all top-outside (listed-tops tops) ⌝ }
+    ensures { λ r. ⌜ r ≡ every top-outside (listed-tops tops) ⌝ }
 {
     let items = tops.items;
     let count = tops.count;
     let mut i: usize = 0;
-    while i < 8 {
+    while i < TOPS_LIMIT {
         if count <= i {
             return true;
         }
@@ -207,7 +210,7 @@ pub fn links_fit(id: BlockId, prev: PrevIds, tops: TopBlocks) -> bool
 
 // The first of questions 2 to 4 whose answer is no.
 pub fn record_refusal(id: BlockId, reference: u32, prev: PrevIds, tops: TopBlocks) -> Refusal
-    ensures { λ r. ⌜ r ≡ pack-refusal (first-no (record-questions id reference prev tops)) ⌝ }
+    ensures { λ r. ⌜ r ≡ record-refusal id reference prev tops ⌝ }
 {
     if !seqnos_fit(id, reference, prev, tops) {
         return Refusal::Number(2);
@@ -224,27 +227,20 @@ pub fn record_refusal(id: BlockId, reference: u32, prev: PrevIds, tops: TopBlock
 }
 
 pub fn candidate_refusal(c: BlockCandidate) -> Refusal
-    ensures { λ r. ⌜ r ≡ pack-refusal (first-no (candidate-questions c)) ⌝ }
+    ensures { λ r. ⌜ r ≡ candidate-refusal c ⌝ }
 {
     record_refusal(c.block_id, c.ref_by_mc_seqno, c.prev_ids, c.top_blocks)
 }
 
 pub fn received_refusal(b: ReceivedBlock) -> Refusal
-    ensures { λ r. ⌜ r ≡ pack-refusal (first-no (received-questions b)) ⌝ }
+    ensures { λ r. ⌜ r ≡ received-refusal b ⌝ }
 {
     record_refusal(b.block_id, b.ref_block_id.seqno, b.prev_ids, b.top_blocks)
 }
 
-// Of a cached entry with its top items.
-pub fn entry_refusal(entry: BlockCacheEntry, tops: TopBlocks) -> Refusal
-    ensures { λ r. ⌜ r ≡ pack-refusal (first-no (entry-questions entry tops)) ⌝ }
-{
-    record_refusal(entry.block_id, entry.ref_by_mc_seqno, entry.prev_ids, tops)
-}
-
 // Questions 2 to 4 at once: whether all are true of a cached entry with its top items.
-pub fn entry_fits(entry: BlockCacheEntry, tops: TopBlocks) -> bool
-    ensures { λ r. ⌜ r ≡ held-fits entry tops ⌝ }
+pub fn held_entry_fits(entry: BlockCacheEntry, tops: TopBlocks) -> bool
+    ensures { λ r. ⌜ r ≡ held-entry-fits entry tops ⌝ }
 {
     let s = seqnos_fit(entry.block_id, entry.ref_by_mc_seqno, entry.prev_ids, tops);
     let c = counts_fit(entry.block_id, entry.prev_ids.count, tops.count);
@@ -253,25 +249,25 @@ pub fn entry_fits(entry: BlockCacheEntry, tops: TopBlocks) -> bool
 }
 
 // The same of a shard's entry, beside which no top items stand.
-pub fn shard_entry_fits(entry: BlockCacheEntry) -> bool
-    ensures { λ r. ⌜ r ≡ held-fits entry zero-tops ⌝ }
+pub fn held_shard_entry_fits(entry: BlockCacheEntry) -> bool
+    ensures { λ r. ⌜ r ≡ held-shard-entry-fits entry ⌝ }
 {
     let i = id_fits(entry.block_id);
     let n = seqno_fits(entry.ref_by_mc_seqno);
     let p = prev_ids_fit(entry.prev_ids);
-    let c = entry.prev_ids.count <= 2;
+    let c = entry.prev_ids.count <= PREV_IDS_LIMIT;
     let l = prev_links_fit(entry.block_id, entry.prev_ids);
     i & (n & (p & (c & l)))
 }
 
 pub fn keys_refusal(given: Keys) -> Refusal
-    ensures { λ r. ⌜ r ≡ pack-refusal (first-no (keys-questions given)) ⌝ }
+    ensures { λ r. ⌜ r ≡ keys-refusal given ⌝ }
 {
     if !keys_fit(given) {
         return Refusal::Number(2);
     }
     let count = given.count;
-    if count <= 9 {
+    if count <= KEYS_LIMIT {
         return Refusal::Absent;
     }
     Refusal::Number(3)

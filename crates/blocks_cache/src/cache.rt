@@ -1,11 +1,14 @@
 // Document 01, Whole cache: a cache, and an empty one.
 ghost use mathlib.Core.Path.{_≡_};
-ghost use Rattle.blocks_cache.specs.CacheLayout.{zero-shard-group, zero-cache, empty};
+ghost use Rattle.blocks_cache.specs.layout.Cache.{empty, zero-cache, zero-shard-group};
 use crate::master_data::AppliedRange;
 use crate::master_data::MasterData;
 use block_records::block_id::ShardIdent;
 use block_records::block_id::zero_id;
 use block_records::block_id::zero_shard;
+use block_records::limits::IDS_LIMIT;
+use block_records::limits::NO_CACHE_SHARDS;
+use block_records::limits::SHARDS_LIMIT;
 use blocks_group::group::Group;
 use blocks_group::group::MasterGroup;
 use blocks_group::group::zero_group;
@@ -20,7 +23,7 @@ pub struct Cache {
     pub zerostate_mc_seqno: u32,
     pub masters: MasterGroup,
     pub data: MasterData,
-    pub shards: [ShardGroup; 8],
+    pub shards: [ShardGroup; SHARDS_LIMIT],
     pub shard_count: usize,
 }
 
@@ -49,7 +52,7 @@ fn zero_cache(zerostate: u32, count: usize) -> Cache
     let masters = zero_master_group();
     let id = zero_id();
     let data = MasterData {
-        ids: [id; 32],
+        ids: [id; IDS_LIMIT],
         count: 0,
         range: AppliedRange::Absent,
     };
@@ -58,7 +61,7 @@ fn zero_cache(zerostate: u32, count: usize) -> Cache
         zerostate_mc_seqno: zerostate,
         masters,
         data,
-        shards: [shard; 8],
+        shards: [shard; SHARDS_LIMIT],
         shard_count: count,
     }
 }
@@ -72,7 +75,7 @@ pub fn empty(zerostate_mc_seqno: u32) -> NewCache
         let answer = NewCacheAnswer::Made;
         return NewCache { answer, cache };
     }
-    let cache = zero_cache(0, 9);
+    let cache = zero_cache(0, NO_CACHE_SHARDS);
     let answer = NewCacheAnswer::Refused(2);
     NewCache { answer, cache }
 }

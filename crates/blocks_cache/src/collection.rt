@@ -1,22 +1,23 @@
 // Document 01, Whole cache: Set boundary, Collect, Remove next collated.
 ghost use mathlib.Core.Path.{_≡_};
-ghost use Rattle.block_records.specs.BlockIds.{listed-keys};
-ghost use Rattle.block_records.specs.Lists.{fold};
-ghost use Rattle.blocks_cache.specs.Calls.{collect, remove-next-collated, set-boundary, unlent};
-ghost use Rattle.blocks_cache.specs.CacheLayout.{call-on};
-ghost use Rattle.blocks_cache.specs.Collections.{bound-held, change-outcome, changed-first, collect-held, collect-shard-group, drop-collected};
-ghost use Rattle.blocks_cache.specs.Collections.{drop-removed, keys-answer, remove-held};
+ghost use Rattle.block_records.specs.rules.BlockId.{listed-keys};
+ghost use Rattle.block_records.specs.rules.Lists.{fold};
+ghost use Rattle.blocks_cache.specs.arrays.Collection.{change-outcome, changed-first, collect-shard-group, drop-collected, drop-removed, held-bound-one, held-collect, held-remove-one, keys-answer};
+ghost use Rattle.blocks_cache.specs.layout.Cache.{call-on};
+ghost use Rattle.cache_rules.specs.Calls.{collect, remove-next-collated, set-boundary, unlent};
 use crate::cache::Cache;
 use crate::cache::ShardGroup;
 use crate::master_data::MasterData;
 use crate::master_data::drop_ids_below;
 use crate::master_data::drop_ids_from;
-use crate::place::Place;
 use crate::shards::ident_place;
 use crate::shards::shard_idents;
 use crate::soundness::sound_cache;
 use block_records::block_id::is_masterchain;
 use block_records::block_id::key_shard;
+use block_records::limits::KEYS_LIMIT;
+use block_records::limits::SHARDS_LIMIT;
+use block_records::place::Place;
 use block_records::questions::Refusal;
 use block_records::questions::keys_refusal;
 use block_records::store_records::Keys;
@@ -60,7 +61,7 @@ fn keys_answer(cache: Cache, given: Keys) -> ChangeAnswer
 
 // Each key in turn sets its group's boundary, an unknown shard is skipped. The shards are gathered once: each group stays in its place.
 fn bound_all(cache: Cache, given: Keys) -> Cache
-    ensures { λ r. ⌜ r ≡ fold bound-held cache (listed-keys given) ⌝ }
+    ensures { λ r. ⌜ r ≡ fold held-bound-one cache (listed-keys given) ⌝ }
 {
     let shards = cache.shards;
     let idents = shard_idents(shards);
@@ -68,7 +69,7 @@ fn bound_all(cache: Cache, given: Keys) -> Cache
     let count = given.count;
     let mut out = cache;
     let mut i: usize = 0;
-    while i < 9 {
+    while i < KEYS_LIMIT {
         if count <= i {
             return out;
         }
@@ -119,12 +120,12 @@ fn drop_collected(data: MasterData, highest: SeqnoOption) -> MasterData
 }
 
 // Each listed shard group without its entries below its boundary.
-fn collect_shards(shards: [ShardGroup; 8], count: usize) -> [ShardGroup; 8]
+fn collect_shards(shards: [ShardGroup; SHARDS_LIMIT], count: usize) -> [ShardGroup; SHARDS_LIMIT]
     ensures { λ r. ⌜ r ≡ changed-first count collect-shard-group shards ⌝ }
 {
     let mut out = shards;
     let mut i: usize = 0;
-    while i < 8 {
+    while i < SHARDS_LIMIT {
         if count <= i {
             return out;
         }
@@ -138,8 +139,8 @@ fn collect_shards(shards: [ShardGroup; 8], count: usize) -> [ShardGroup; 8]
 }
 
 // Entries below their group's boundary go, and ids with them; the range stays.
-fn collect_cache(cache: Cache) -> Cache
-    ensures { λ r. ⌜ r ≡ collect-held cache ⌝ }
+fn held_collect(cache: Cache) -> Cache
+    ensures { λ r. ⌜ r ≡ held-collect cache ⌝ }
 {
     let highest = highest_below_boundary(cache.masters.group);
     let kept = collect_masters(cache.masters);
@@ -164,7 +165,7 @@ pub fn gc_prev_blocks(cache: Cache) -> CacheChange
             cache,
         };
     }
-    let collected = collect_cache(cache);
+    let collected = held_collect(cache);
     CacheChange {
         answer: ChangeAnswer::Done,
         cache: collected,
@@ -185,7 +186,7 @@ fn drop_removed(data: MasterData, lowest: SeqnoOption) -> MasterData
 
 // Of each key's group in turn the non-Received entries above it go, and with masters their ids; the range stays, an unknown shard is skipped.
 fn remove_all(cache: Cache, given: Keys) -> Cache
-    ensures { λ r. ⌜ r ≡ fold remove-held cache (listed-keys given) ⌝ }
+    ensures { λ r. ⌜ r ≡ fold held-remove-one cache (listed-keys given) ⌝ }
 {
     let shards = cache.shards;
     let idents = shard_idents(shards);
@@ -193,7 +194,7 @@ fn remove_all(cache: Cache, given: Keys) -> Cache
     let count = given.count;
     let mut out = cache;
     let mut i: usize = 0;
-    while i < 9 {
+    while i < KEYS_LIMIT {
         if count <= i {
             return out;
         }

@@ -1,40 +1,44 @@
 // Document 01, Whole cache: Extraction; pop and sync extraction, with the blocks beside the answer and the number of the lent slice's places given.
-ghost use mathlib.Core.Path.{_≡_};
 ghost use mathlib.Core.Bool.{true};
+ghost use mathlib.Core.Path.{_≡_};
 ghost use Prim.Native.Nat.{_<_, _≤_};
 ghost use lib.ListN.{take};
-ghost use Rattle.block_records.specs.BlockIds.{listed-tops};
-ghost use Rattle.block_records.specs.EntryLayout.{pack-tops};
-ghost use Rattle.block_records.specs.Lists.{filter, padded};
-ghost use Rattle.block_records.specs.Zeros.{zero-entry};
-ghost use Rattle.blocks_cache.specs.CacheLayout.{sound-cache, view};
-ghost use Rattle.blocks_cache.specs.Extraction.{starts, extraction-of};
-ghost use Rattle.blocks_cache.specs.ExtractionArrays.{waiting-list, held-starting-ids, without-seqno, refresh-seqnos};
-ghost use Rattle.blocks_cache.specs.ExtractionArrays.{compact-group, compact-shard, compact-shards, backwards, view-master, pack-extraction};
-ghost use Rattle.blocks_group.specs.GroupRules.{at-seqno};
-ghost use Rattle.blocks_cache.specs.Model.{first-applied};
-ghost use Rattle.blocks_cache.specs.Subgraphs.{hand-out, no-extract, plain-extract, pop-plain, move-applied-start, request-seqno, sync-plain};
+ghost use Rattle.block_records.specs.layout.Entry.{pack-tops};
+ghost use Rattle.block_records.specs.layout.Zeros.{zero-entry};
+ghost use Rattle.block_records.specs.rules.Lists.{padded};
+ghost use Rattle.blocks_cache.specs.arrays.Extraction.{backwards, compact-group, compact-shard, compact-shards, held-starting-ids, held-starting-items, pack-extraction, pack-waiting, refresh-seqnos, view-master, without-seqno};
+ghost use Rattle.blocks_cache.specs.arrays.Subgraphs.{hand-out, move-applied-start, no-extract, plain-extract, pop-plain, request-seqno, sync-plain};
+ghost use Rattle.blocks_cache.specs.layout.Cache.{sound-cache, view};
+ghost use Rattle.blocks_group.specs.rules.Group.{at-seqno};
+ghost use Rattle.cache_rules.specs.Extraction.{extraction-of};
+ghost use Rattle.cache_rules.specs.Model.{first-applied};
 use crate::cache::Cache;
 use crate::cache::ShardGroup;
 use crate::lookup::BlockPlace;
 use crate::lookup::EntrySeqno;
 use crate::lookup::GroupSeqnos;
-use crate::lookup::lookup;
+use crate::lookup::block_place;
 use crate::lookup::shard_seqnos;
 use crate::master_data::AppliedRange;
 use crate::master_data::MasterData;
 use crate::master_data::drop_ids_below;
-use crate::master_data::move_range_start;
-use crate::place::listed_count;
+use crate::master_data::moved_start;
 use crate::shards::shard_idents;
 use crate::soundness::sound_cache;
 use block_records::block_id::BlockId;
 use block_records::block_id::zero_id;
 use block_records::entry::BlockCacheEntry;
 use block_records::entry::MasterBlock;
-use block_records::entry::is_applied;
+use block_records::entry::held_applied;
 use block_records::entry::zero_entry;
 use block_records::entry::zero_master;
+use block_records::limits::ENTRIES_LIMIT;
+use block_records::limits::SHARDS_LIMIT;
+use block_records::limits::SLICE_PLACES;
+use block_records::limits::TOPS_LIMIT;
+use block_records::limits::WAITING_PLACES;
+use block_records::place::Place;
+use block_records::place::listed_count;
 use block_records::questions::seqno_fits;
 use block_records::top_block::TopBlocks;
 use block_records::top_block::zero_top;
@@ -43,35 +47,34 @@ use blocks_group::group::MasterGroup;
 use blocks_group::group::master_at;
 use blocks_group::group::remove_master;
 use blocks_group::mark::refreshed_mark;
-use blocks_group::queries::applied_above;
+use blocks_group::queries::any_applied_above;
 use blocks_group::queries::first_applied_master;
 use blocks_group::refresh::refresh_masters;
-use blocks_group::search::Found;
 
 // What an extraction leaves of the shard groups, the joined blocks (last joined first, zeros after them), how many they are and how many
 // ids were taken.
 pub(crate) struct Extraction {
-    pub shards: [ShardGroup; 8],
-    pub blocks: [BlockCacheEntry; 128],
+    pub shards: [ShardGroup; SHARDS_LIMIT],
+    pub blocks: [BlockCacheEntry; SLICE_PLACES],
     pub joined: usize,
     pub taken: usize,
 }
 
 // The ids that wait, with those that were taken before them.
 pub(crate) struct WaitingList {
-    pub ids: [BlockId; 264],
+    pub ids: [BlockId; WAITING_PLACES],
     pub count: usize,
 }
 
 // ===== the starting ids =====
 
 // The top items, in order, that are updated with reference above the zerostate.
-pub(crate) fn starting_items(zerostate: u32, tops: TopBlocks) -> TopBlocks
-    ensures { λ r. ⌜ r ≡ pack-tops (filter (starts zerostate) (listed-tops tops)) ⌝ }
+pub(crate) fn held_starting_items(zerostate: u32, tops: TopBlocks) -> TopBlocks
+    ensures { λ r. ⌜ r ≡ pack-tops (held-starting-items zerostate tops) ⌝ }
 {
     let zero = zero_top();
-    let mut items = [zero; 8];
-    let listed = listed_count(tops.count, 8);
+    let mut items = [zero; TOPS_LIMIT];
+    let listed = listed_count(tops.count, TOPS_LIMIT);
     let mut count: usize = 0;
     let mut i: usize = 0;
     while i < listed {
@@ -86,12 +89,12 @@ pub(crate) fn starting_items(zerostate: u32, tops: TopBlocks) -> TopBlocks
 }
 
 // Their ids wait first.
-fn starting_ids(zerostate: u32, tops: TopBlocks) -> WaitingList
-    ensures { λ r. ⌜ r ≡ waiting-list (held-starting-ids zerostate tops) ⌝ }
+fn held_starting_ids(zerostate: u32, tops: TopBlocks) -> WaitingList
+    ensures { λ r. ⌜ r ≡ pack-waiting (held-starting-ids zerostate tops) ⌝ }
 {
     let zero = zero_id();
-    let mut ids = [zero; 264];
-    let starting = starting_items(zerostate, tops);
+    let mut ids = [zero; WAITING_PLACES];
+    let starting = held_starting_items(zerostate, tops);
     let count = starting.count;
     let mut i: usize = 0;
     while i < count {
@@ -135,10 +138,10 @@ fn compact_group(group: Group, seqnos: GroupSeqnos) -> Group
     ensures { λ r. ⌜ r ≡ compact-group group seqnos ⌝ }
 {
     let zero = zero_entry();
-    let mut entries = [zero; 16];
+    let mut entries = [zero; ENTRIES_LIMIT];
     let mut count: usize = 0;
     let mut i: usize = 0;
-    while i < 16 {
+    while i < ENTRIES_LIMIT {
         let x = seqnos.entries[i];
         if x.cached {
             entries[count] = group.entries[i];
@@ -164,12 +167,15 @@ fn compact_shard(held: ShardGroup, seqnos: GroupSeqnos) -> ShardGroup
     ShardGroup { shard, group }
 }
 
-fn compact_shards(shards: [ShardGroup; 8], seqnos: [GroupSeqnos; 8]) -> [ShardGroup; 8]
+fn compact_shards(
+    shards: [ShardGroup; SHARDS_LIMIT],
+    seqnos: [GroupSeqnos; SHARDS_LIMIT],
+) -> [ShardGroup; SHARDS_LIMIT]
     ensures { λ r. ⌜ r ≡ compact-shards shards seqnos ⌝ }
 {
     let mut out = shards;
     let mut i: usize = 0;
-    while i < 8 {
+    while i < SHARDS_LIMIT {
         out[i] = compact_shard(out[i], seqnos[i]);
         i += 1;
     }
@@ -177,12 +183,15 @@ fn compact_shards(shards: [ShardGroup; 8], seqnos: [GroupSeqnos; 8]) -> [ShardGr
 }
 
 // The last of the first `count` blocks first, zeros after them.
-fn last_first(blocks: [BlockCacheEntry; 128], count: usize) -> [BlockCacheEntry; 128]
+fn last_first(
+    blocks: [BlockCacheEntry; SLICE_PLACES],
+    count: usize,
+) -> [BlockCacheEntry; SLICE_PLACES]
     requires { ⌜ count ≤ 128 ⌝ }
     ensures { λ r. ⌜ r ≡ padded 128 zero-entry (backwards (take count blocks)) ⌝ }
 {
     let zero = zero_entry();
-    let mut out = [zero; 128];
+    let mut out = [zero; SLICE_PLACES];
     let mut j: usize = 0;
     while j < count {
         out[j] = blocks[count - 1 - j];
@@ -193,24 +202,24 @@ fn last_first(blocks: [BlockCacheEntry; 128], count: usize) -> [BlockCacheEntry;
 
 // First in, first out: an entry found leaves the cache. If its reference is M's seqno it joins, its previous ids are queued and its
 // group's mark is refreshed; otherwise it is dropped.
-fn extract(cache: Cache, master: MasterBlock) -> Extraction
+fn extraction_of(cache: Cache, master: MasterBlock) -> Extraction
     requires { ⌜ sound-cache cache ≡ true ⌝ }
     ensures { λ r. ⌜ r ≡ pack-extraction (extraction-of (view-master master) (view cache)) ⌝ }
 {
-    let starting = starting_ids(cache.zerostate_mc_seqno, master.tops);
+    let starting = held_starting_ids(cache.zerostate_mc_seqno, master.tops);
     let mut ids = starting.ids;
     let mut count = starting.count;
     let shards = cache.shards;
     let idents = shard_idents(shards);
     let mut seqnos = shard_seqnos(shards);
     let zero = zero_entry();
-    let mut blocks = [zero; 128];
+    let mut blocks = [zero; SLICE_PLACES];
     let mut joined: usize = 0;
     let mut head: usize = 0;
     while head < count {
         let id = ids[head];
         head += 1;
-        let BlockPlace::At(at, place) = lookup(idents, seqnos, id) else {
+        let BlockPlace::At(at, place) = block_place(idents, seqnos, id) else {
             continue;
         };
         let held = cache.shards[at];
@@ -267,13 +276,13 @@ pub struct SubgraphExtract {
 }
 
 // The same with the joined blocks, and zeros after them.
-pub struct PlainExtract {
+pub struct ExtractWithBlocks {
     pub extract: SubgraphExtract,
-    pub blocks: [BlockCacheEntry; 128],
+    pub blocks: [BlockCacheEntry; SLICE_PLACES],
 }
 
 // Nothing is handed out.
-fn no_extract(answer: ExtractAnswer, cache: Cache) -> PlainExtract
+fn no_extract(answer: ExtractAnswer, cache: Cache) -> ExtractWithBlocks
     ensures { λ r. ⌜ r ≡ no-extract answer cache ⌝ }
 {
     let master = zero_master();
@@ -285,9 +294,9 @@ fn no_extract(answer: ExtractAnswer, cache: Cache) -> PlainExtract
         cache,
     };
     let zero = zero_entry();
-    PlainExtract {
+    ExtractWithBlocks {
         extract,
-        blocks: [zero; 128],
+        blocks: [zero; SLICE_PLACES],
     }
 }
 
@@ -299,7 +308,7 @@ fn hand_out(
     masters: MasterGroup,
     range: AppliedRange,
     extraction: Extraction,
-) -> PlainExtract
+) -> ExtractWithBlocks
     ensures { λ r. ⌜ r ≡ hand-out cache answer master masters range extraction ⌝ }
 {
     let kept = drop_ids_below(cache.data, master.entry.block_id.seqno);
@@ -325,28 +334,28 @@ fn hand_out(
         cache: left,
     };
     let blocks = extraction.blocks;
-    PlainExtract { extract, blocks }
+    ExtractWithBlocks { extract, blocks }
 }
 
 // Pop: the lowest applied master at or above a seqno leaves, and the start moves by it.
-fn pop_plain(cache: Cache, from: u32) -> PlainExtract
+fn pop_with_blocks(cache: Cache, from: u32) -> ExtractWithBlocks
     requires { ⌜ sound-cache cache ≡ true ⌝ }
     ensures { λ r. ⌜ r ≡ pop-plain (first-applied from (view cache)) (view cache) ⌝ }
 {
     let first = first_applied_master(cache.masters, from);
     let found = first.found;
-    let Found::At(at) = found else {
+    let Place::At(at) = found else {
         let answer = ExtractAnswer::Refused(11);
         return no_extract(answer, cache);
     };
     let seqno = first.block.entry.block_id.seqno;
-    let above = applied_above(cache.masters.group, seqno);
+    let above = any_applied_above(cache.masters.group, seqno);
     let answer = ExtractAnswer::Popped { last: !above };
-    let extraction = extract(cache, first.block);
+    let extraction = extraction_of(cache, first.block);
     let left = remove_master(cache.masters, seqno);
     let data = cache.data;
     let old = data.range;
-    let range = move_range_start(seqno, old);
+    let range = moved_start(seqno, old);
     hand_out(cache, answer, first.block, left, range, extraction)
 }
 
@@ -354,25 +363,25 @@ fn pop_plain(cache: Cache, from: u32) -> PlainExtract
 fn move_applied_start(range: AppliedRange, master: MasterBlock) -> AppliedRange
     ensures { λ r. ⌜ r ≡ move-applied-start range master ⌝ }
 {
-    if is_applied(master.entry) {
-        return move_range_start(master.entry.block_id.seqno, range);
+    if held_applied(master.entry) {
+        return moved_start(master.entry.block_id.seqno, range);
     }
     range
 }
 
 // Sync extraction: the master at a seqno leaves; if it is applied the start moves; the mark's rule is used.
-fn sync_plain(cache: Cache, seqno: u32) -> PlainExtract
+fn sync_with_blocks(cache: Cache, seqno: u32) -> ExtractWithBlocks
     requires { ⌜ sound-cache cache ≡ true ⌝ }
     ensures { λ r. ⌜ r ≡ sync-plain (at-seqno seqno (view cache .masters .entries)) (view cache) ⌝ }
 {
     let there = master_at(cache.masters, seqno);
     let found = there.found;
-    let Found::At(at) = found else {
+    let Place::At(at) = found else {
         let answer = ExtractAnswer::AlreadyExtracted;
         return no_extract(answer, cache);
     };
     let answer = ExtractAnswer::Extracted;
-    let extraction = extract(cache, there.block);
+    let extraction = extraction_of(cache, there.block);
     let removed = remove_master(cache.masters, there.block.entry.block_id.seqno);
     let left = refresh_masters(removed, there.block.entry.block_id.seqno);
     let data = cache.data;
@@ -391,7 +400,11 @@ fn request_seqno(request: ExtractRequest) -> u32
 }
 
 // Questions 1, 2 and 10, then the request.
-pub(crate) fn extract_plain(cache: Cache, request: ExtractRequest, places: usize) -> PlainExtract
+pub(crate) fn extract_with_blocks(
+    cache: Cache,
+    request: ExtractRequest,
+    places: usize,
+) -> ExtractWithBlocks
     ensures { λ r. ⌜ r ≡ plain-extract cache request places ⌝ }
 {
     if !sound_cache(cache) {
@@ -403,12 +416,12 @@ pub(crate) fn extract_plain(cache: Cache, request: ExtractRequest, places: usize
         let answer = ExtractAnswer::Refused(2);
         return no_extract(answer, cache);
     }
-    if places < 128 {
+    if places < SLICE_PLACES {
         let answer = ExtractAnswer::Refused(10);
         return no_extract(answer, cache);
     }
     if let ExtractRequest::Pop(from) = request {
-        return pop_plain(cache, from);
+        return pop_with_blocks(cache, from);
     }
-    sync_plain(cache, seqno)
+    sync_with_blocks(cache, seqno)
 }

@@ -1,22 +1,23 @@
 // Document 01, Master data: the last collated ids by seqno, and the applied range.
 ghost use mathlib.Core.Path.{_≡_};
 ghost use lib.ListN.{drop, length};
-ghost use Rattle.block_records.specs.Lists.{all, rising};
-ghost use Rattle.block_records.specs.Zeros.{is-zero-id};
-ghost use Rattle.blocks_group.specs.GroupLayout.{view-mark};
-ghost use Rattle.blocks_cache.specs.CacheLayout.{pack-range, view-range, sound-ids};
-ghost use Rattle.blocks_cache.specs.Model.{moved-start, moved-end, id-before};
-ghost use Rattle.blocks_cache.specs.Refusals.{range-sound, id-masterchain};
-ghost use Rattle.block_records.specs.Arrays.{Splices, spliced};
-ghost use Rattle.blocks_cache.specs.Places.{place};
-ghost use Rattle.blocks_cache.specs.MasterDataArrays.{listed-ids, listed-count, with-ids, id-below, id-at, put-id, retains-id, retain-ids, drop-ids-below, drop-ids-from};
-ghost use Rattle.blocks_cache.specs.MasterDataArrays.{highest-id, has-id, has-place-for-id};
-use crate::place::Place;
+ghost use Rattle.block_records.specs.arrays.Arrays.{Splices, spliced};
+ghost use Rattle.block_records.specs.arrays.Place.{place};
+ghost use Rattle.block_records.specs.layout.Zeros.{is-zero-id};
+ghost use Rattle.block_records.specs.rules.Lists.{every, rising};
+ghost use Rattle.blocks_cache.specs.arrays.MasterData.{drop-ids-below, drop-ids-from, has-id, has-place-for-id, highest-id, id-at, id-below, listed-ids, put-id, retain-ids, retains-id, with-ids};
+ghost use Rattle.blocks_cache.specs.layout.Cache.{pack-range, sound-ids, view-range};
+ghost use Rattle.blocks_group.specs.layout.Group.{view-mark};
+ghost use Rattle.cache_rules.specs.Model.{id-before, moved-end, moved-start};
+ghost use Rattle.cache_rules.specs.Refusals.{id-masterchain, sound-range};
 use block_records::block_id::BlockId;
 use block_records::block_id::id_shard;
 use block_records::block_id::is_masterchain;
 use block_records::block_id::is_zero_id;
 use block_records::block_id::zero_id;
+use block_records::limits::IDS_LIMIT;
+use block_records::place::Place;
+use block_records::place::listed_count;
 use blocks_group::mark::Mark;
 
 pub enum AppliedRange {
@@ -26,7 +27,7 @@ pub enum AppliedRange {
 
 // Up to 32 last collated ids by seqno, and the applied range.
 pub struct MasterData {
-    pub ids: [BlockId; 32],
+    pub ids: [BlockId; IDS_LIMIT],
     pub count: usize,
     pub range: AppliedRange,
 }
@@ -46,7 +47,7 @@ pub enum RetainedIds {
 // ===== the applied range =====
 
 // Moving the start by a seqno. There is a next seqno wherever it is taken: the seqno is below the end.
-pub fn move_range_start(seqno: u32, range: AppliedRange) -> AppliedRange
+pub fn moved_start(seqno: u32, range: AppliedRange) -> AppliedRange
     ensures { λ r. ⌜ r ≡ pack-range (moved-start seqno (view-range range)) ⌝ }
 {
     match range {
@@ -66,7 +67,7 @@ pub fn move_range_start(seqno: u32, range: AppliedRange) -> AppliedRange
 }
 
 // Moving the end.
-pub fn move_range_end(seqno: u32, range: AppliedRange) -> AppliedRange
+pub fn moved_end(seqno: u32, range: AppliedRange) -> AppliedRange
     ensures { λ r. ⌜ r ≡ pack-range (moved-end seqno (view-range range)) ⌝ }
 {
     match range {
@@ -76,8 +77,8 @@ pub fn move_range_end(seqno: u32, range: AppliedRange) -> AppliedRange
 }
 
 // Range absent or start <= end <= present master mark.
-pub fn range_sound(mark: Mark, range: AppliedRange) -> bool
-    ensures { λ r. ⌜ r ≡ range-sound (view-mark mark) (view-range range) ⌝ }
+pub fn sound_range(mark: Mark, range: AppliedRange) -> bool
+    ensures { λ r. ⌜ r ≡ sound-range (view-mark mark) (view-range range) ⌝ }
 {
     match range {
         AppliedRange::Absent => true,
@@ -90,18 +91,11 @@ pub fn range_sound(mark: Mark, range: AppliedRange) -> bool
 
 // ===== the last collated ids =====
 
-// The number of places below a count.
-fn listed_count(count: usize) -> usize
-    ensures { λ r. ⌜ r ≡ listed-count count ⌝ }
-{
-    if count < 32 { count } else { 32 }
-}
-
 // The highest last collated id.
 pub fn highest_id(data: MasterData) -> LastId
     ensures { λ r. ⌜ r ≡ highest-id «data» ⌝ }
 {
-    let count = listed_count(data.count);
+    let count = listed_count(data.count, IDS_LIMIT);
     if count == 0 {
         let id = zero_id();
         return LastId { present: false, id };
@@ -114,7 +108,7 @@ pub fn highest_id(data: MasterData) -> LastId
 pub fn has_id(data: MasterData, seqno: u32) -> bool
     ensures { λ r. ⌜ r ≡ has-id seqno «data» ⌝ }
 {
-    let count = listed_count(data.count);
+    let count = listed_count(data.count, IDS_LIMIT);
     let mut i: usize = 0;
     while i < count {
         if data.ids[i].seqno == seqno {
@@ -130,7 +124,7 @@ pub fn has_place_for_id(data: MasterData, seqno: u32) -> bool
     ensures { λ r. ⌜ r ≡ has-place-for-id seqno «data» ⌝ }
 {
     let listed = has_id(data, seqno);
-    let few = data.count < 32;
+    let few = data.count < IDS_LIMIT;
     listed | few
 }
 
@@ -138,7 +132,7 @@ pub fn has_place_for_id(data: MasterData, seqno: u32) -> bool
 fn id_place(data: MasterData, seqno: u32) -> Place
     ensures { λ r. ⌜ r ≡ place (id-below seqno) (id-at seqno) (listed-ids «data») ⌝ }
 {
-    let count = listed_count(data.count);
+    let count = listed_count(data.count, IDS_LIMIT);
     let mut i: usize = 0;
     while i < count {
         let x = data.ids[i].seqno;
@@ -159,8 +153,8 @@ fn put_id_at(data: MasterData, at: usize, from: usize, id: BlockId) -> MasterDat
     ensures { λ r. ⌜ r ≡ with-ids (spliced at from id (listed-ids «data»)) «data» ⌝ }
 {
     let zero = zero_id();
-    let mut ids = [zero; 32];
-    let listed = listed_count(data.count);
+    let mut ids = [zero; IDS_LIMIT];
+    let listed = listed_count(data.count, IDS_LIMIT);
     let count = at + 1 + (listed - from);
     let mut j: usize = 0;
     while j < count {
@@ -185,7 +179,7 @@ pub fn put_id(data: MasterData, id: BlockId) -> MasterData
     match place {
         Place::At(at) => put_id_at(data, at, at + 1, id),
         Place::Vacant(at) => {
-            if data.count < 32 {
+            if data.count < IDS_LIMIT {
                 return put_id_at(data, at, at, id);
             }
             data
@@ -208,8 +202,8 @@ fn retain_ids(data: MasterData, rule: RetainedIds) -> MasterData
     ensures { λ r. ⌜ r ≡ retain-ids rule «data» ⌝ }
 {
     let zero = zero_id();
-    let mut ids = [zero; 32];
-    let listed = listed_count(data.count);
+    let mut ids = [zero; IDS_LIMIT];
+    let listed = listed_count(data.count, IDS_LIMIT);
     let mut count: usize = 0;
     let mut i: usize = 0;
     while i < listed {
@@ -244,10 +238,10 @@ pub fn drop_ids_from(data: MasterData, seqno: u32) -> MasterData
 
 // Whether zeros stand beyond the count.
 fn ids_zero_beyond(data: MasterData) -> bool
-    ensures { λ r. ⌜ r ≡ all is-zero-id (drop («data» .count) («data» .ids)) ⌝ }
+    ensures { λ r. ⌜ r ≡ every is-zero-id (drop («data» .count) («data» .ids)) ⌝ }
 {
     let mut i: usize = data.count;
-    while i < 32 {
+    while i < IDS_LIMIT {
         let id = data.ids[i];
         if !is_zero_id(id) {
             return false;
@@ -261,7 +255,7 @@ fn ids_zero_beyond(data: MasterData) -> bool
 fn ids_rise(data: MasterData) -> bool
     ensures { λ r. ⌜ r ≡ rising id-before (listed-ids «data») ⌝ }
 {
-    let count = listed_count(data.count);
+    let count = listed_count(data.count, IDS_LIMIT);
     let mut i: usize = 1;
     while i < count {
         if data.ids[i].seqno <= data.ids[i - 1].seqno {
@@ -274,9 +268,9 @@ fn ids_rise(data: MasterData) -> bool
 
 // Whether all ids are masterchain.
 fn ids_masterchain(data: MasterData) -> bool
-    ensures { λ r. ⌜ r ≡ all id-masterchain (listed-ids «data») ⌝ }
+    ensures { λ r. ⌜ r ≡ every id-masterchain (listed-ids «data») ⌝ }
 {
-    let count = listed_count(data.count);
+    let count = listed_count(data.count, IDS_LIMIT);
     let mut i: usize = 0;
     while i < count {
         let id = data.ids[i];
@@ -293,7 +287,7 @@ fn ids_masterchain(data: MasterData) -> bool
 pub fn sound_ids(data: MasterData) -> bool
     ensures { λ r. ⌜ r ≡ sound-ids «data» ⌝ }
 {
-    let few = data.count <= 32;
+    let few = data.count <= IDS_LIMIT;
     let zeros = ids_zero_beyond(data);
     let rise = ids_rise(data);
     let side = ids_masterchain(data);

@@ -1,17 +1,16 @@
 // Document 01, Whole cache: Peek.
 ghost use mathlib.Core.Bool.{true};
 ghost use mathlib.Core.Path.{_≡_};
-ghost use Rattle.block_records.specs.BlockIds.{key, listed-tops};
-ghost use Rattle.block_records.specs.Lists.{filter};
-ghost use Rattle.blocks_cache.specs.Calls.{peek, unlent};
-ghost use Rattle.blocks_cache.specs.CacheLayout.{call-on, sound-cache};
-ghost use Rattle.blocks_cache.specs.Extraction.{starts};
-ghost use Rattle.blocks_cache.specs.Peeks.{held-tops, pack-view, peek-held, peek-outcome, zero-peek, zero-row, zeroed-peek};
 ghost use Rattle.blocks_cache.specs.declared.peek.MissingTop.the-variants.{At as missing-at};
+ghost use Rattle.block_records.specs.rules.BlockId.{key};
+ghost use Rattle.blocks_cache.specs.arrays.Extraction.{held-starting-items};
+ghost use Rattle.blocks_cache.specs.arrays.Peek.{held-peek, held-view-tops, pack-view, peek-outcome, zero-peek, zero-row, zeroed-peek};
+ghost use Rattle.blocks_cache.specs.layout.Cache.{call-on, sound-cache};
+ghost use Rattle.cache_rules.specs.Calls.{peek, unlent};
 use crate::cache::Cache;
-use crate::extraction::starting_items;
+use crate::extraction::held_starting_items;
 use crate::lookup::BlockPlace;
-use crate::lookup::lookup;
+use crate::lookup::block_place;
 use crate::lookup::shard_seqnos;
 use crate::shards::shard_idents;
 use crate::soundness::sound_cache;
@@ -19,10 +18,11 @@ use block_records::block_id::BlockId;
 use block_records::block_id::BlockIdShort;
 use block_records::block_id::key;
 use block_records::block_id::zero_id;
+use block_records::limits::TOPS_LIMIT;
+use block_records::place::Place;
 use block_records::questions::seqno_fits;
 use block_records::top_block::TopBlocks;
 use blocks_group::queries::first_applied_master;
-use blocks_group::search::Found;
 
 // Id, reference and payload.
 pub struct PeekRow {
@@ -47,14 +47,14 @@ pub enum PeekAnswer {
 pub struct Peek {
     pub answer: PeekAnswer,
     pub master: PeekRow,
-    pub tops: [PeekRow; 8],
+    pub tops: [PeekRow; TOPS_LIMIT],
     pub count: usize,
     pub missing: MissingTop,
 }
 
 // The tops' rows, zeros after them, and the one that is missing.
 pub(crate) struct TopRows {
-    pub rows: [PeekRow; 8],
+    pub rows: [PeekRow; TOPS_LIMIT],
     pub count: usize,
     pub gap: MissingTop,
 }
@@ -78,14 +78,14 @@ fn zero_peek(answer: PeekAnswer) -> Peek
     Peek {
         answer,
         master: row,
-        tops: [row; 8],
+        tops: [row; TOPS_LIMIT],
         count: 0,
         missing: MissingTop::Absent,
     }
 }
 
 // The first top that isn't cached naming the master ends the view.
-fn ended_at(rows: [PeekRow; 8], count: usize, id: BlockId) -> TopRows
+fn ended_at(rows: [PeekRow; TOPS_LIMIT], count: usize, id: BlockId) -> TopRows
     ensures { λ r. ⌜ r ≡ record { rows = rows; count = count; gap = missing-at (key id) } ⌝ }
 {
     let short = key(id);
@@ -94,21 +94,21 @@ fn ended_at(rows: [PeekRow; 8], count: usize, id: BlockId) -> TopRows
 }
 
 // The starting items in order, as long as each is cached naming the master; a row's id and reference are the item's.
-fn view_tops(cache: Cache, seqno: u32, tops: TopBlocks) -> TopRows
+fn held_view_tops(cache: Cache, seqno: u32, tops: TopBlocks) -> TopRows
     requires { ⌜ sound-cache cache ≡ true ⌝ }
-    ensures { λ r. ⌜ r ≡ pack-view (held-tops seqno cache (filter (starts (cache .«zerostate_mc_seqno»)) (listed-tops tops))) ⌝ }
+    ensures { λ r. ⌜ r ≡ pack-view (held-view-tops seqno cache (held-starting-items (cache .«zerostate_mc_seqno») tops)) ⌝ }
 {
-    let starting = starting_items(cache.zerostate_mc_seqno, tops);
+    let starting = held_starting_items(cache.zerostate_mc_seqno, tops);
     let shards = cache.shards;
     let idents = shard_idents(shards);
     let seqnos = shard_seqnos(shards);
     let zero = zero_row();
-    let mut rows = [zero; 8];
+    let mut rows = [zero; TOPS_LIMIT];
     let mut count: usize = 0;
     while count < starting.count {
         let item = starting.items[count];
         let id = item.block_id;
-        let BlockPlace::At(at, place) = lookup(idents, seqnos, id) else {
+        let BlockPlace::At(at, place) = block_place(idents, seqnos, id) else {
             return ended_at(rows, count, id);
         };
         let held = cache.shards[at];
@@ -129,13 +129,13 @@ fn view_tops(cache: Cache, seqno: u32, tops: TopBlocks) -> TopRows
 }
 
 // The lowest applied master at or above a seqno, and its starting items.
-fn peek_master(cache: Cache, from: u32) -> Peek
+fn held_peek(cache: Cache, from: u32) -> Peek
     requires { ⌜ sound-cache cache ≡ true ⌝ }
-    ensures { λ r. ⌜ r ≡ peek-held from cache ⌝ }
+    ensures { λ r. ⌜ r ≡ held-peek from cache ⌝ }
 {
     let at = first_applied_master(cache.masters, from);
     let found = at.found;
-    let Found::At(_) = found else {
+    let Place::At(_) = found else {
         return zero_peek(PeekAnswer::Nothing);
     };
     let entry = at.block.entry;
@@ -145,7 +145,7 @@ fn peek_master(cache: Cache, from: u32) -> Peek
         ref_by_mc_seqno: entry.ref_by_mc_seqno,
         payload: entry.payload,
     };
-    let view = view_tops(cache, id.seqno, at.block.tops);
+    let view = held_view_tops(cache, id.seqno, at.block.tops);
     let rows = view.rows;
     let missing = view.gap;
     Peek {
@@ -166,5 +166,5 @@ pub fn peek_front_applied_mc_block_subgraph(cache: Cache, from: u32) -> Peek
     if !seqno_fits(from) {
         return zero_peek(PeekAnswer::Refused(2));
     }
-    peek_master(cache, from)
+    held_peek(cache, from)
 }

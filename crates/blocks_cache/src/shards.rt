@@ -1,31 +1,32 @@
 // Document 01, Whole cache: up to 8 shard groups, by rising shard.
 ghost use mathlib.Core.Path.{_≡_};
-ghost use Prim.Native.Nat.{_≤_, _<_};
+ghost use Prim.Native.Nat.{_<_, _≤_};
 ghost use lib.ListN.{take};
-ghost use Rattle.block_records.specs.Arrays.{spliced};
-ghost use Rattle.block_records.specs.Lists.{each};
-ghost use Rattle.blocks_cache.specs.ShardArrays.{held-shard, ident-place, shard-place, shards-over, put-shard};
+ghost use Rattle.block_records.specs.arrays.Arrays.{spliced};
+ghost use Rattle.block_records.specs.rules.Lists.{each};
+ghost use Rattle.blocks_cache.specs.arrays.Shards.{ident-place, put-shard, shard-ident, shard-place, shards-over};
 use crate::cache::ShardGroup;
-use crate::place::Place;
-use crate::place::listed_count;
 use block_records::block_id::ShardIdent;
 use block_records::block_id::less_shard;
 use block_records::block_id::same_shard;
 use block_records::block_id::zero_shard;
+use block_records::limits::SHARDS_LIMIT;
+use block_records::place::Place;
+use block_records::place::listed_count;
 
 pub struct Shards {
-    pub groups: [ShardGroup; 8],
+    pub groups: [ShardGroup; SHARDS_LIMIT],
     pub count: usize,
 }
 
 // The groups' shards, in their places.
-pub(crate) fn shard_idents(shards: [ShardGroup; 8]) -> [ShardIdent; 8]
-    ensures { λ r. ⌜ r ≡ each held-shard shards ⌝ }
+pub(crate) fn shard_idents(shards: [ShardGroup; SHARDS_LIMIT]) -> [ShardIdent; SHARDS_LIMIT]
+    ensures { λ r. ⌜ r ≡ each shard-ident shards ⌝ }
 {
     let zero = zero_shard();
-    let mut out = [zero; 8];
+    let mut out = [zero; SHARDS_LIMIT];
     let mut i: usize = 0;
-    while i < 8 {
+    while i < SHARDS_LIMIT {
         let held = shards[i];
         let shard = held.shard;
         out[i] = shard;
@@ -35,10 +36,14 @@ pub(crate) fn shard_idents(shards: [ShardGroup; 8]) -> [ShardIdent; 8]
 }
 
 // Where a shard stands among the first `count`, or the place where it would go in.
-pub(crate) fn ident_place(idents: [ShardIdent; 8], count: usize, shard: ShardIdent) -> Place
+pub(crate) fn ident_place(
+    idents: [ShardIdent; SHARDS_LIMIT],
+    count: usize,
+    shard: ShardIdent,
+) -> Place
     ensures { λ r. ⌜ r ≡ ident-place shard count idents ⌝ }
 {
-    let listed = listed_count(count, 8);
+    let listed = listed_count(count, SHARDS_LIMIT);
     let mut i: usize = 0;
     while i < listed {
         let x = idents[i];
@@ -54,10 +59,10 @@ pub(crate) fn ident_place(idents: [ShardIdent; 8], count: usize, shard: ShardIde
 }
 
 // Where a shard's group stands, or the place where it would go in. For one search: a loop gathers the shards and asks `ident_place`.
-pub fn find_shard(groups: [ShardGroup; 8], count: usize, shard: ShardIdent) -> Place
+pub fn shard_place(groups: [ShardGroup; SHARDS_LIMIT], count: usize, shard: ShardIdent) -> Place
     ensures { λ r. ⌜ r ≡ shard-place shard count groups ⌝ }
 {
-    let listed = listed_count(count, 8);
+    let listed = listed_count(count, SHARDS_LIMIT);
     let mut i: usize = 0;
     while i < listed {
         let g = groups[i];
@@ -74,7 +79,12 @@ pub fn find_shard(groups: [ShardGroup; 8], count: usize, shard: ShardIdent) -> P
 }
 
 // The groups from a place on moved one place further, and the given one put there.
-fn insert_shard(groups: [ShardGroup; 8], count: usize, at: usize, group: ShardGroup) -> Shards
+fn insert_shard(
+    groups: [ShardGroup; SHARDS_LIMIT],
+    count: usize,
+    at: usize,
+    group: ShardGroup,
+) -> Shards
     requires { ⌜ (at ≤ count) × (count < 8) ⌝ }
     ensures { λ r. ⌜ r ≡ shards-over (spliced at at group (take count groups)) groups ⌝ }
 {
@@ -92,22 +102,22 @@ fn insert_shard(groups: [ShardGroup; 8], count: usize, at: usize, group: ShardGr
 }
 
 // The group put in by shard; one of the same shard is replaced. Where 8 are listed and none is of the shard, nothing changes.
-pub fn put_shard(groups: [ShardGroup; 8], count: usize, group: ShardGroup) -> Shards
+pub fn put_shard(groups: [ShardGroup; SHARDS_LIMIT], count: usize, group: ShardGroup) -> Shards
     ensures { λ r. ⌜ r ≡ put-shard group count groups ⌝ }
 {
-    let place = find_shard(groups, count, group.shard);
+    let place = shard_place(groups, count, group.shard);
     match place {
         Place::At(at) => {
             let mut out = groups;
             out[at] = group;
-            let listed = listed_count(count, 8);
+            let listed = listed_count(count, SHARDS_LIMIT);
             Shards {
                 groups: out,
                 count: listed,
             }
         }
         Place::Vacant(at) => {
-            if count < 8 {
+            if count < SHARDS_LIMIT {
                 return insert_shard(groups, count, at, group);
             }
             Shards { groups, count }

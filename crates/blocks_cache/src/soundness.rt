@@ -1,22 +1,23 @@
 // Document 01, question 1: is the cache sound?
 ghost use mathlib.Core.Path.{_≡_};
 ghost use lib.ListN.{drop, take};
-ghost use Rattle.block_records.specs.Lists.{all, rising};
-ghost use Rattle.blocks_cache.specs.CacheLayout.{is-zero-shard-group, shard-group-before, sound-cache, sound-shard-group, sound-shards};
+ghost use Rattle.block_records.specs.rules.Lists.{every, rising};
+ghost use Rattle.blocks_cache.specs.layout.Cache.{is-zero-shard-group, shard-group-before, sound-cache, sound-shard-group, sound-shards};
 use crate::cache::Cache;
 use crate::cache::ShardGroup;
-use crate::master_data::range_sound;
 use crate::master_data::sound_ids;
+use crate::master_data::sound_range;
 use block_records::block_id::is_masterchain;
 use block_records::block_id::is_zero_shard;
 use block_records::block_id::less_shard;
+use block_records::limits::SHARDS_LIMIT;
 use blocks_group::soundness::is_zero_group;
 use blocks_group::soundness::sound_group;
 use blocks_group::soundness::sound_master_group;
 
 // ===== shard groups =====
 
-fn shard_group_zero(group: ShardGroup) -> bool
+fn is_zero_shard_group(group: ShardGroup) -> bool
     ensures { λ r. ⌜ r ≡ is-zero-shard-group group ⌝ }
 {
     let s = is_zero_shard(group.shard);
@@ -25,7 +26,7 @@ fn shard_group_zero(group: ShardGroup) -> bool
 }
 
 // No masterchain shard group, and the group sound for its shard.
-fn shard_group_sound(group: ShardGroup) -> bool
+fn sound_shard_group(group: ShardGroup) -> bool
     ensures { λ r. ⌜ r ≡ sound-shard-group group ⌝ }
 {
     let shard = group.shard;
@@ -34,12 +35,12 @@ fn shard_group_sound(group: ShardGroup) -> bool
     !m & g
 }
 
-fn shards_zero(shards: [ShardGroup; 8], from: usize) -> bool
-    ensures { λ r. ⌜ r ≡ all is-zero-shard-group (drop from shards) ⌝ }
+fn shards_zero(shards: [ShardGroup; SHARDS_LIMIT], from: usize) -> bool
+    ensures { λ r. ⌜ r ≡ every is-zero-shard-group (drop from shards) ⌝ }
 {
     let mut i: usize = from;
-    while i < 8 {
-        if !shard_group_zero(shards[i]) {
+    while i < SHARDS_LIMIT {
+        if !is_zero_shard_group(shards[i]) {
             return false;
         }
         i += 1;
@@ -47,15 +48,15 @@ fn shards_zero(shards: [ShardGroup; 8], from: usize) -> bool
     true
 }
 
-fn shards_all_sound(shards: [ShardGroup; 8], count: usize) -> bool
-    ensures { λ r. ⌜ r ≡ all sound-shard-group (take count shards) ⌝ }
+fn shards_each_sound(shards: [ShardGroup; SHARDS_LIMIT], count: usize) -> bool
+    ensures { λ r. ⌜ r ≡ every sound-shard-group (take count shards) ⌝ }
 {
     let mut i: usize = 0;
-    while i < 8 {
+    while i < SHARDS_LIMIT {
         if count <= i {
             return true;
         }
-        if !shard_group_sound(shards[i]) {
+        if !sound_shard_group(shards[i]) {
             return false;
         }
         i += 1;
@@ -64,11 +65,11 @@ fn shards_all_sound(shards: [ShardGroup; 8], count: usize) -> bool
 }
 
 // By rising shard: each comes after the one before it.
-fn shards_rise(shards: [ShardGroup; 8], count: usize) -> bool
+fn shards_rise(shards: [ShardGroup; SHARDS_LIMIT], count: usize) -> bool
     ensures { λ r. ⌜ r ≡ rising shard-group-before (take count shards) ⌝ }
 {
     let mut i: usize = 1;
-    while i < 8 {
+    while i < SHARDS_LIMIT {
         if count <= i {
             return true;
         }
@@ -82,13 +83,13 @@ fn shards_rise(shards: [ShardGroup; 8], count: usize) -> bool
     true
 }
 
-fn shards_sound(shards: [ShardGroup; 8], count: usize) -> bool
+fn sound_shards(shards: [ShardGroup; SHARDS_LIMIT], count: usize) -> bool
     ensures { λ r. ⌜ r ≡ sound-shards count shards ⌝ }
 {
-    let c = count <= 8;
+    let c = count <= SHARDS_LIMIT;
     let z = shards_zero(shards, count);
     let o = shards_rise(shards, count);
-    let s = shards_all_sound(shards, count);
+    let s = shards_each_sound(shards, count);
     c & (z & (o & s))
 }
 
@@ -102,9 +103,9 @@ pub fn sound_cache(cache: Cache) -> bool
     let mark = group.mark;
     let data = cache.data;
     let range = data.range;
-    let r = range_sound(mark, range);
+    let r = sound_range(mark, range);
     let i = sound_ids(data);
     let shards = cache.shards;
-    let s = shards_sound(shards, cache.shard_count);
+    let s = sound_shards(shards, cache.shard_count);
     m & (r & (i & s))
 }

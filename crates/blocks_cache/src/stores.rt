@@ -1,11 +1,8 @@
 // Document 01, Master data and Whole cache: the collated and the received store.
 ghost use mathlib.Core.Path.{_≡_};
-ghost use Rattle.blocks_cache.specs.CacheLayout.{call-on};
-ghost use Rattle.blocks_cache.specs.Calls.{unlent, store-collated, store-received};
-ghost use Rattle.blocks_cache.specs.CacheStores.{store-outcome, zeroed-store, nothing-stored, stored-in, with-masters-and-data, shard-held};
-ghost use Rattle.blocks_cache.specs.CacheStores.{with-shard-group, collated-ids, ids-after, range-end-moved};
-ghost use Rattle.blocks_cache.specs.CacheStores.{store-master-candidate, store-shard-candidate, store-candidate};
-ghost use Rattle.blocks_cache.specs.CacheStores.{store-master-receipt, store-shard-receipt, store-receipt};
+ghost use Rattle.blocks_cache.specs.arrays.Stores.{collated-ids, ids-after, nothing-stored, range-end-moved, shard-held, store-candidate, store-master-candidate, store-master-receipt, store-outcome, store-receipt, store-shard-candidate, store-shard-receipt, stored-in, with-masters-and-data, with-shard-group, zeroed-store};
+ghost use Rattle.blocks_cache.specs.layout.Cache.{call-on};
+ghost use Rattle.cache_rules.specs.Calls.{store-collated, store-received, unlent};
 use crate::cache::Cache;
 use crate::cache::ShardGroup;
 use crate::master_data::AppliedRange;
@@ -14,12 +11,11 @@ use crate::master_data::MasterData;
 use crate::master_data::drop_ids_from;
 use crate::master_data::has_place_for_id;
 use crate::master_data::highest_id;
-use crate::master_data::move_range_end;
-use crate::master_data::move_range_start;
+use crate::master_data::moved_end;
+use crate::master_data::moved_start;
 use crate::master_data::put_id;
-use crate::place::Place;
-use crate::shards::find_shard;
 use crate::shards::put_shard;
+use crate::shards::shard_place;
 use crate::soundness::sound_cache;
 use block_records::block_id::BlockId;
 use block_records::block_id::ShardIdent;
@@ -27,6 +23,8 @@ use block_records::block_id::id_shard;
 use block_records::block_id::is_masterchain;
 use block_records::block_id::same_id;
 use block_records::block_id::zero_id;
+use block_records::limits::SHARDS_LIMIT;
+use block_records::place::Place;
 use block_records::questions::Refusal;
 use block_records::questions::candidate_refusal;
 use block_records::questions::received_refusal;
@@ -120,10 +118,10 @@ fn with_shard_group(cache: Cache, group: ShardGroup, data: MasterData) -> Cache
 }
 
 // The group of a shard, an empty one where there is none; for a new shard there is room under 8 groups.
-fn shard_held(groups: [ShardGroup; 8], count: usize, shard: ShardIdent) -> ShardHeld
+fn shard_held(groups: [ShardGroup; SHARDS_LIMIT], count: usize, shard: ShardIdent) -> ShardHeld
     ensures { λ r. ⌜ r ≡ shard-held shard count groups ⌝ }
 {
-    let place = find_shard(groups, count, shard);
+    let place = shard_place(groups, count, shard);
     match place {
         Place::At(at) => {
             let found = groups[at];
@@ -133,7 +131,7 @@ fn shard_held(groups: [ShardGroup; 8], count: usize, shard: ShardIdent) -> Shard
         Place::Vacant(_) => {
             let group = zero_group();
             ShardHeld {
-                room: count < 8,
+                room: count < SHARDS_LIMIT,
                 group,
             }
         }
@@ -147,7 +145,7 @@ fn collated_ids(data: MasterData, id: BlockId) -> MasterData
     ensures { λ r. ⌜ r ≡ collated-ids id «data» ⌝ }
 {
     let range = data.range;
-    let moved = move_range_start(id.seqno, range);
+    let moved = moved_start(id.seqno, range);
     let ids = data.ids;
     let started = MasterData {
         ids,
@@ -172,7 +170,7 @@ fn range_end_moved(data: MasterData, seqno: u32) -> MasterData
     ensures { λ r. ⌜ r ≡ range-end-moved seqno «data» ⌝ }
 {
     let range = data.range;
-    let moved = move_range_end(seqno, range);
+    let moved = moved_end(seqno, range);
     let ids = data.ids;
     MasterData {
         ids,

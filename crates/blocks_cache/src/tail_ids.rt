@@ -4,25 +4,20 @@ ghost use mathlib.Core.List.{[], _∷_};
 ghost use mathlib.Core.Path.{_≡_};
 ghost use Prim.Native.Nat.{_≤_};
 ghost use lib.ListN.{length, take};
-ghost use Rattle.block_records.specs.Arrays.{Splices, spliced};
-ghost use Rattle.block_records.specs.BlockIds.{listed-prev-ids, listed-tops};
-ghost use Rattle.block_records.specs.EntryLayout.{pack-prev-ids};
-ghost use Rattle.block_records.specs.Lists.{each, fold};
-ghost use Rattle.blocks_cache.specs.Calls.{read-tail-ids, unlent};
-ghost use Rattle.blocks_cache.specs.CacheLayout.{call-on, sound-cache};
-ghost use Rattle.blocks_cache.specs.Extraction.{top-id};
-ghost use Rattle.blocks_cache.specs.TailIdsOnce.{knows};
-ghost use Rattle.blocks_cache.specs.TailArrays.{zero-tail, with-rows, listed-tails, row-place, less-last, replaces-last, hold-row};
-ghost use Rattle.blocks_cache.specs.TailArrays.{cached-row, missing-row, two-ids, fresh-ids, fingerprint, has-number};
-ghost use Rattle.blocks_cache.specs.TailArrays.{pack-walk, walk-state, first-state, take-tail-id, take-queued, block-tails, no-tails, read-tails};
-ghost use Rattle.blocks_cache.specs.TailArrays.{tail-outcome, zeroed-tails};
+ghost use Rattle.block_records.specs.arrays.Arrays.{Splices, spliced};
+ghost use Rattle.block_records.specs.layout.Entry.{pack-prev-ids};
+ghost use Rattle.block_records.specs.rules.BlockId.{listed-prev-ids, listed-tops};
+ghost use Rattle.block_records.specs.rules.Lists.{each, fold};
+ghost use Rattle.blocks_cache.specs.arrays.TailIds.{block-tails, cached-row, fingerprint, first-state, fresh-ids, has-number, hold-row, less-last, listed-tails, missing-row, no-tails, pack-walk, read-tails, replaces-last, row-place, tail-outcome, take-queued, take-tail-id, two-ids, walk-state, with-rows, zero-tail, zeroed-tails};
+ghost use Rattle.blocks_cache.specs.layout.Cache.{call-on, sound-cache};
+ghost use Rattle.cache_rules.specs.Calls.{read-tail-ids, unlent};
+ghost use Rattle.cache_rules.specs.Extraction.{top-id};
+ghost use Rattle.cache_rules.specs.TailIdsOnce.{knows};
 use crate::cache::Cache;
 use crate::lookup::BlockPlace;
-use crate::lookup::lookup;
+use crate::lookup::block_place;
 use crate::lookup::shard_seqnos;
 use crate::master_data::LastId;
-use crate::place::Place;
-use crate::place::listed_count;
 use crate::shards::shard_idents;
 use crate::soundness::sound_cache;
 use block_records::block_id::BlockId;
@@ -36,13 +31,20 @@ use block_records::block_id::same_shard;
 use block_records::block_id::zero_id;
 use block_records::block_id::zero_shard;
 use block_records::entry::MasterBlock;
+use block_records::limits::PREV_IDS_LIMIT;
+use block_records::limits::QUEUED_FULL;
+use block_records::limits::QUEUED_LIMIT;
+use block_records::limits::QUEUED_PLACES;
+use block_records::limits::ROWS_LIMIT;
+use block_records::limits::TOPS_LIMIT;
+use block_records::place::Place;
+use block_records::place::listed_count;
 use block_records::questions::key_fits;
 use block_records::store_records::PrevIds;
 use block_records::store_records::stored_prev_ids;
 use block_records::store_records::zero_prev_ids;
 use block_records::top_block::TopBlocks;
 use blocks_group::group::master_at;
-use blocks_group::search::Found;
 
 // Of a shard: an id or absent over zeros, and previous ids.
 pub struct TailIdsRow {
@@ -53,15 +55,15 @@ pub struct TailIdsRow {
 
 // The rows by rising shard; at most 17.
 pub struct TailRows {
-    pub rows: [TailIdsRow; 17],
+    pub rows: [TailIdsRow; ROWS_LIMIT],
     pub count: usize,
 }
 
 // The rows so far, and the ids that were queued, each once, with their fingerprints: at most 256, and two places more, so that two can always be written.
 pub(crate) struct TailWalk {
     pub tails: TailRows,
-    pub ids: [BlockId; 258],
-    pub fingerprints: [u64; 258],
+    pub ids: [BlockId; QUEUED_PLACES],
+    pub fingerprints: [u64; QUEUED_PLACES],
     pub count: usize,
 }
 
@@ -99,7 +101,7 @@ fn zero_tail() -> TailIdsRow
 fn row_place(tails: TailRows, shard: ShardIdent) -> Place
     ensures { λ r. ⌜ r ≡ row-place shard tails ⌝ }
 {
-    let listed = listed_count(tails.count, 17);
+    let listed = listed_count(tails.count, ROWS_LIMIT);
     let mut i: usize = 0;
     while i < listed {
         let row = tails.rows[i];
@@ -121,8 +123,8 @@ fn put_row_at(tails: TailRows, at: usize, from: usize, row: TailIdsRow) -> TailR
     ensures { λ r. ⌜ r ≡ with-rows (spliced at from row (listed-tails tails)) ⌝ }
 {
     let zero = zero_tail();
-    let mut rows = [zero; 17];
-    let listed = listed_count(tails.count, 17);
+    let mut rows = [zero; ROWS_LIMIT];
+    let listed = listed_count(tails.count, ROWS_LIMIT);
     let count = at + 1 + (listed - from);
     let mut j: usize = 0;
     while j < count {
@@ -147,7 +149,7 @@ fn less_last(a: LastId, b: LastId) -> bool
 }
 
 // The pair held is replaced if its id is absent, or if the new id is less.
-fn replaces_row(id: LastId, held: LastId) -> bool
+fn replaces_last(id: LastId, held: LastId) -> bool
     ensures { λ r. ⌜ r ≡ replaces-last id held ⌝ }
 {
     let less = less_last(id, held);
@@ -162,7 +164,7 @@ fn hold_row(tails: TailRows, row: TailIdsRow) -> TailRows
     match place {
         Place::At(at) => {
             let held = tails.rows[at];
-            if replaces_row(row.id, held.id) {
+            if replaces_last(row.id, held.id) {
                 let mut out = tails;
                 out.rows[at] = row;
                 return out;
@@ -170,7 +172,7 @@ fn hold_row(tails: TailRows, row: TailIdsRow) -> TailRows
             tails
         }
         Place::Vacant(at) => {
-            if tails.count < 17 {
+            if tails.count < ROWS_LIMIT {
                 return put_row_at(tails, at, at, row);
             }
             tails
@@ -199,7 +201,7 @@ fn missing_row(id: BlockId) -> TailIdsRow
 {
     let shard = id_shard(id);
     let zero = zero_id();
-    let mut ids = [zero; 2];
+    let mut ids = [zero; PREV_IDS_LIMIT];
     ids[0] = id;
     let id = LastId {
         present: false,
@@ -216,11 +218,11 @@ fn missing_row(id: BlockId) -> TailIdsRow
 // ===== the ids that wait =====
 
 // Whether an id is among the first `count`.
-fn is_known(ids: [BlockId; 258], count: usize, id: BlockId) -> bool
+fn knows(ids: [BlockId; QUEUED_PLACES], count: usize, id: BlockId) -> bool
     ensures { λ r. ⌜ r ≡ knows (take count ids) id ⌝ }
 {
     let mut i: usize = 0;
-    while i < 258 {
+    while i < QUEUED_PLACES {
         if count <= i {
             return false;
         }
@@ -238,7 +240,7 @@ fn two_ids(first: BlockId, takes_first: bool, second: BlockId, takes_second: boo
     ensures { λ r. ⌜ r ≡ pack-prev-ids (two-ids first «takes_first» second «takes_second») ⌝ }
 {
     let zero = zero_id();
-    let mut ids = [zero; 2];
+    let mut ids = [zero; PREV_IDS_LIMIT];
     if takes_first {
         ids[0] = first;
         if takes_second {
@@ -255,18 +257,18 @@ fn two_ids(first: BlockId, takes_first: bool, second: BlockId, takes_second: boo
 }
 
 // Of the previous ids those that are not known yet, each once; none where 256 places would not hold them.
-fn fresh_ids(ids: [BlockId; 258], count: usize, prev: PrevIds) -> PrevIds
+fn fresh_ids(ids: [BlockId; QUEUED_PLACES], count: usize, prev: PrevIds) -> PrevIds
     ensures { λ r. ⌜ r ≡ pack-prev-ids (fresh-ids (take count ids) (listed-prev-ids prev)) ⌝ }
 {
     let first = prev.ids[0];
     let second = prev.ids[1];
-    let known = is_known(ids, count, first);
+    let known = knows(ids, count, first);
     let takes_first = (0 < prev.count) & !known;
-    let known = is_known(ids, count, second);
+    let known = knows(ids, count, second);
     let same = same_id(second, first);
     let takes_second = (1 < prev.count) & !(known | same);
     let fresh = two_ids(first, takes_first, second, takes_second);
-    if count <= 256 - fresh.count {
+    if count <= QUEUED_LIMIT - fresh.count {
         return fresh;
     }
     zero_prev_ids()
@@ -293,7 +295,12 @@ fn has_number(numbers: &[u64], number: u64) -> bool
 }
 
 // The same as `fresh_ids`: most ids are known to be new by their fingerprints, so that none is compared.
-fn next_ids(ids: [BlockId; 258], fingerprints: &[u64], count: usize, prev: PrevIds) -> PrevIds
+fn next_ids(
+    ids: [BlockId; QUEUED_PLACES],
+    fingerprints: &[u64],
+    count: usize,
+    prev: PrevIds,
+) -> PrevIds
     requires { ⌜ now fingerprints ≡ each fingerprint (take count ids) ⌝ }
     ensures { λ r. ⌜ r ≡ pack-prev-ids (fresh-ids (take count ids) (listed-prev-ids prev)) ⌝ }
 {
@@ -301,7 +308,7 @@ fn next_ids(ids: [BlockId; 258], fingerprints: &[u64], count: usize, prev: PrevI
     let second = fingerprint(prev.ids[1]);
     let a = has_number(fingerprints, first);
     let b = has_number(fingerprints, second);
-    if a | b | (first == second) | (254 < count) {
+    if a | b | (first == second) | (QUEUED_FULL < count) {
         return fresh_ids(ids, count, prev);
     }
     stored_prev_ids(prev)
@@ -314,7 +321,7 @@ fn one_row(row: TailIdsRow) -> TailRows
     ensures { λ r. ⌜ r ≡ with-rows (row ∷ []) ⌝ }
 {
     let zero = zero_tail();
-    let mut rows = [zero; 17];
+    let mut rows = [zero; ROWS_LIMIT];
     rows[0] = row;
     TailRows { rows, count: 1 }
 }
@@ -329,10 +336,10 @@ fn take_tops(cache: Cache, mc_seqno: u32, first: TailIdsRow, tops: TopBlocks) ->
     let seqnos = shard_seqnos(shards);
     let mut tails = one_row(first);
     let zero = zero_id();
-    let mut ids = [zero; 258];
-    let mut fingerprints = [0u64; 258];
+    let mut ids = [zero; QUEUED_PLACES];
+    let mut fingerprints = [0u64; QUEUED_PLACES];
     let mut count: usize = 0;
-    let listed = listed_count(tops.count, 8);
+    let listed = listed_count(tops.count, TOPS_LIMIT);
     let mut i: usize = 0;
     while i < listed {
         let item = tops.items[i];
@@ -341,7 +348,7 @@ fn take_tops(cache: Cache, mc_seqno: u32, first: TailIdsRow, tops: TopBlocks) ->
         if id.seqno == 0 {
             continue;
         }
-        let BlockPlace::At(at, place) = lookup(idents, seqnos, id) else {
+        let BlockPlace::At(at, place) = block_place(idents, seqnos, id) else {
             let row = missing_row(id);
             tails = hold_row(tails, row);
             continue;
@@ -385,7 +392,7 @@ fn take_queued(cache: Cache, mc_seqno: u32, walk: TailWalk) -> TailRows
         if id.seqno == 0 {
             continue;
         }
-        let BlockPlace::At(at, place) = lookup(idents, seqnos, id) else {
+        let BlockPlace::At(at, place) = block_place(idents, seqnos, id) else {
             continue;
         };
         let held = cache.shards[at];
@@ -406,7 +413,7 @@ fn take_queued(cache: Cache, mc_seqno: u32, walk: TailWalk) -> TailRows
             continue;
         };
         let old = tails.rows[at];
-        if replaces_row(row.id, old.id) {
+        if replaces_last(row.id, old.id) {
             tails.rows[at] = row;
         }
     }
@@ -432,7 +439,7 @@ fn no_tails(answer: TailAnswer) -> TailIds
 {
     let zero = zero_tail();
     let tails = TailRows {
-        rows: [zero; 17],
+        rows: [zero; ROWS_LIMIT],
         count: 0,
     };
     TailIds { answer, tails }
@@ -448,7 +455,7 @@ fn read_tails(cache: Cache, seqno: u32) -> TailIds
     }
     let at = master_at(cache.masters, seqno);
     let found = at.found;
-    let Found::At(_) = found else {
+    let Place::At(_) = found else {
         return no_tails(TailAnswer::Refused(12));
     };
     let tails = block_tails(cache, at.block);

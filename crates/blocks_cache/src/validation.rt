@@ -1,10 +1,10 @@
 // Document 01, Whole cache: Validation.
 ghost use mathlib.Core.Path.{_≡_};
-ghost use Rattle.blocks_cache.specs.Calls.{store-validation, unlent};
-ghost use Rattle.blocks_cache.specs.CacheLayout.{call-on};
-ghost use Rattle.blocks_cache.specs.CacheParts.{with-master-group};
-ghost use Rattle.blocks_cache.specs.Effects.{result-status, result-handle, result-weight, validated-kind};
-ghost use Rattle.blocks_cache.specs.Validations.{view-validation, pack-kind, validate-master, validation-outcome};
+ghost use Rattle.blocks_cache.specs.arrays.Cache.{with-master-group};
+ghost use Rattle.blocks_cache.specs.arrays.Validation.{pack-kind, validate-master, validation-outcome, view-validation};
+ghost use Rattle.blocks_cache.specs.layout.Cache.{call-on};
+ghost use Rattle.cache_rules.specs.Calls.{store-validation, unlent};
+ghost use Rattle.cache_rules.specs.Effects.{result-handle, result-status, result-weight, validated-kind};
 use crate::cache::Cache;
 use crate::soundness::sound_cache;
 use block_records::block_id::BlockId;
@@ -13,11 +13,11 @@ use block_records::entry::CandidateStatus;
 use block_records::entry::MasterBlock;
 use block_records::entry::same_status;
 use block_records::entry::with_data;
+use block_records::place::Place;
 use block_records::questions::id_fits;
 use blocks_group::group::MasterGroup;
 use blocks_group::group::master_at;
 use blocks_group::group::put_master;
-use blocks_group::search::Found;
 
 pub enum ValidationStatus {
     Complete { signatures: u64, total_weight: u64 },
@@ -53,7 +53,7 @@ fn result_status(status: ValidationStatus) -> CandidateStatus
     }
 }
 
-fn result_signatures(status: ValidationStatus) -> u64
+fn result_handle(status: ValidationStatus) -> u64
     ensures { λ r. ⌜ r ≡ result-handle (view-validation status) ⌝ }
 {
     match status {
@@ -103,7 +103,7 @@ fn validated_kind(status: ValidationStatus, data: BlockCacheEntryData) -> Valida
             data,
         };
     }
-    let signatures = result_signatures(status);
+    let signatures = result_handle(status);
     let weight = result_weight(status);
     let set = BlockCacheEntryData::Collated {
         status: new,
@@ -119,7 +119,7 @@ fn validated_kind(status: ValidationStatus, data: BlockCacheEntryData) -> Valida
 }
 
 // The cache with other masters.
-fn with_masters(cache: Cache, masters: MasterGroup) -> Cache
+fn with_master_group(cache: Cache, masters: MasterGroup) -> Cache
     ensures { λ r. ⌜ r ≡ with-master-group masters cache ⌝ }
 {
     let data = cache.data;
@@ -139,7 +139,7 @@ fn validate_master(cache: Cache, seqno: u32, status: ValidationStatus) -> Valida
 {
     let at = master_at(cache.masters, seqno);
     let found = at.found;
-    let Found::At(_) = found else {
+    let Place::At(_) = found else {
         return ValidationResult {
             answer: ValidationAnswer::NoChange,
             cache,
@@ -158,7 +158,7 @@ fn validate_master(cache: Cache, seqno: u32, status: ValidationStatus) -> Valida
     let entry = with_data(entry, set);
     let tops = at.block.tops;
     let masters = put_master(cache.masters, MasterBlock { entry, tops });
-    let cache = with_masters(cache, masters);
+    let cache = with_master_group(cache, masters);
     let new = result_status(status);
     ValidationResult {
         answer: ValidationAnswer::Updated(new),

@@ -1,25 +1,23 @@
 // Document 01, Group: up to 16 entries by rising seqno. The master group has its blocks' top items beside it, in the same places.
-ghost use mathlib.Core.Path.{_≡_};
 ghost use mathlib.Core.Bool.{false};
-ghost use Prim.Native.Nat.{_<_};
-ghost use lib.ListN.{getD, length, take};
-ghost use Rattle.block_records.specs.Zeros.{zero-entry, zero-tops};
-ghost use Rattle.block_records.specs.Lists.{each, padded};
-ghost use Rattle.blocks_group.specs.Search.{place};
-ghost use Rattle.blocks_group.specs.GroupLayout.{zero-group, zero-master-group};
-ghost use Rattle.blocks_group.specs.GroupArrays.{listed-count, listed-entries, listed-seqnos, listed-masters, with-records, with-masters};
-ghost use Rattle.block_records.specs.Arrays.{Splices, spliced, flagged};
-ghost use Rattle.blocks_group.specs.GroupArrays.{retains, entry-at, master-at, put-entry, put-master, retain-entries, retain-masters, remove-entry, remove-master};
-ghost use Rattle.blocks_group.specs.GroupArrays.{set-group-boundary, set-master-boundary};
+ghost use mathlib.Core.Path.{_≡_};
+ghost use lib.ListN.{length, take};
+ghost use Rattle.block_records.specs.arrays.Arrays.{Splices, flagged, spliced};
+ghost use Rattle.block_records.specs.layout.Zeros.{zero-tops};
+ghost use Rattle.block_records.specs.rules.Lists.{each, padded};
+ghost use Rattle.blocks_group.specs.arrays.Group.{entry-at, entry-place, listed-entries, listed-masters, master-at, master-in-place, put-entry, put-master, remove-master, retain-entries, retain-masters, retains, set-group-boundary, set-master-boundary, with-master-blocks, with-records};
+ghost use Rattle.blocks_group.specs.layout.Group.{zero-group, zero-master-group};
 use crate::mark::Mark;
-use crate::search::Found;
 use crate::search::search;
 use block_records::block_id::BlockIdShort;
 use block_records::entry::BlockCacheEntry;
 use block_records::entry::MasterBlock;
-use block_records::entry::is_received;
+use block_records::entry::held_received;
 use block_records::entry::zero_entry;
 use block_records::entry::zero_master;
+use block_records::limits::ENTRIES_LIMIT;
+use block_records::place::Place;
+use block_records::place::listed_count;
 use block_records::top_block::TopBlocks;
 use block_records::top_block::zero_tops;
 
@@ -29,7 +27,7 @@ pub enum Boundary {
 }
 
 pub struct Group {
-    pub entries: [BlockCacheEntry; 16],
+    pub entries: [BlockCacheEntry; ENTRIES_LIMIT],
     pub count: usize,
     pub mark: Mark,
     pub boundary: Boundary,
@@ -37,17 +35,17 @@ pub struct Group {
 
 pub struct MasterGroup {
     pub group: Group,
-    pub tops: [TopBlocks; 16],
+    pub tops: [TopBlocks; ENTRIES_LIMIT],
 }
 
 // What stands at a seqno; zeros where nothing does.
 pub struct EntryAt {
-    pub found: Found,
+    pub found: Place,
     pub entry: BlockCacheEntry,
 }
 
 pub struct MasterAt {
-    pub found: Found,
+    pub found: Place,
     pub block: MasterBlock,
 }
 
@@ -63,7 +61,7 @@ pub fn zero_group() -> Group
 {
     let entry = zero_entry();
     Group {
-        entries: [entry; 16],
+        entries: [entry; ENTRIES_LIMIT],
         count: 0,
         mark: Mark::Absent,
         boundary: Boundary::Absent,
@@ -77,23 +75,16 @@ pub fn zero_master_group() -> MasterGroup
     let tops = zero_tops();
     MasterGroup {
         group,
-        tops: [tops; 16],
+        tops: [tops; ENTRIES_LIMIT],
     }
 }
 
-// The number of places below a count.
-fn listed_count(count: usize) -> usize
-    ensures { λ r. ⌜ r ≡ listed-count count ⌝ }
-{
-    if count < 16 { count } else { 16 }
-}
-
 // Where an entry of this seqno stands, or the place where it would go in.
-pub fn find(group: Group, seqno: u32) -> Found
-    ensures { λ r. ⌜ r ≡ place seqno (listed-seqnos group) ⌝ }
+pub fn entry_place(group: Group, seqno: u32) -> Place
+    ensures { λ r. ⌜ r ≡ entry-place seqno group ⌝ }
 {
-    let count = listed_count(group.count);
-    let mut seqnos = [0u32; 16];
+    let count = listed_count(group.count, ENTRIES_LIMIT);
+    let mut seqnos = [0u32; ENTRIES_LIMIT];
     let mut i: usize = 0;
     while i < count {
         seqnos[i] = group.entries[i].block_id.seqno;
@@ -106,8 +97,8 @@ pub fn find(group: Group, seqno: u32) -> Found
 pub fn entry_at(group: Group, seqno: u32) -> EntryAt
     ensures { λ r. ⌜ r ≡ entry-at seqno group ⌝ }
 {
-    let found = find(group, seqno);
-    let Found::At(at) = found else {
+    let found = entry_place(group, seqno);
+    let Place::At(at) = found else {
         let zero = zero_entry();
         return EntryAt { found, entry: zero };
     };
@@ -119,9 +110,9 @@ pub fn entry_at(group: Group, seqno: u32) -> EntryAt
 
 // The master block of a place.
 pub(crate) fn master_in_place(masters: MasterGroup, at: usize) -> MasterBlock
-    ensures { λ r. ⌜ r ≡ record { entry = getD (masters .group .entries) at zero-entry; tops = getD (masters .tops) at zero-tops } ⌝ }
+    ensures { λ r. ⌜ r ≡ master-in-place at masters ⌝ }
 {
-    if 16 <= at {
+    if ENTRIES_LIMIT <= at {
         return zero_master();
     }
     let group = masters.group;
@@ -135,8 +126,8 @@ pub(crate) fn master_in_place(masters: MasterGroup, at: usize) -> MasterBlock
 pub fn master_at(masters: MasterGroup, seqno: u32) -> MasterAt
     ensures { λ r. ⌜ r ≡ master-at seqno masters ⌝ }
 {
-    let found = find(masters.group, seqno);
-    let Found::At(at) = found else {
+    let found = entry_place(masters.group, seqno);
+    let Place::At(at) = found else {
         let zero = zero_master();
         return MasterAt { found, block: zero };
     };
@@ -150,8 +141,8 @@ fn put_entry_at(group: Group, at: usize, from: usize, entry: BlockCacheEntry) ->
     ensures { λ r. ⌜ r ≡ with-records (spliced at from entry (listed-entries group)) group ⌝ }
 {
     let zero = zero_entry();
-    let mut out = [zero; 16];
-    let count = listed_count(group.count);
+    let mut out = [zero; ENTRIES_LIMIT];
+    let count = listed_count(group.count, ENTRIES_LIMIT);
     let n = at + 1 + (count - from);
     let mut j: usize = 0;
     while j < n {
@@ -176,18 +167,18 @@ fn put_entry_at(group: Group, at: usize, from: usize, entry: BlockCacheEntry) ->
 
 // The same of the top items beside.
 fn put_tops_at(
-    tops: [TopBlocks; 16],
+    tops: [TopBlocks; ENTRIES_LIMIT],
     listed: usize,
     at: usize,
     from: usize,
     new: TopBlocks,
-) -> [TopBlocks; 16]
+) -> [TopBlocks; ENTRIES_LIMIT]
     requires { ⌜ Splices 16 at from (length (take listed tops)) ⌝ }
     ensures { λ r. ⌜ r ≡ padded 16 zero-tops (spliced at from new (take listed tops)) ⌝ }
 {
     let zero = zero_tops();
-    let mut out = [zero; 16];
-    let count = listed_count(listed);
+    let mut out = [zero; ENTRIES_LIMIT];
+    let count = listed_count(listed, ENTRIES_LIMIT);
     let n = at + 1 + (count - from);
     let mut j: usize = 0;
     while j < n {
@@ -206,7 +197,7 @@ fn put_tops_at(
 // The same of both.
 fn put_master_at(masters: MasterGroup, at: usize, from: usize, block: MasterBlock) -> MasterGroup
     requires { ⌜ Splices 16 at from (length (listed-entries (masters .group))) ⌝ }
-    ensures { λ r. ⌜ r ≡ with-masters (spliced at from block (listed-masters masters)) masters ⌝ }
+    ensures { λ r. ⌜ r ≡ with-master-blocks (spliced at from block (listed-masters masters)) masters ⌝ }
 {
     let put = put_entry_at(masters.group, at, from, block.entry);
     let tops = masters.tops;
@@ -221,11 +212,11 @@ fn put_master_at(masters: MasterGroup, at: usize, from: usize, block: MasterBloc
 pub fn put_entry(group: Group, entry: BlockCacheEntry) -> Group
     ensures { λ r. ⌜ r ≡ put-entry entry group ⌝ }
 {
-    let found = find(group, entry.block_id.seqno);
+    let found = entry_place(group, entry.block_id.seqno);
     match found {
-        Found::At(at) => put_entry_at(group, at, at + 1, entry),
-        Found::Vacant(at) => {
-            if group.count < 16 {
+        Place::At(at) => put_entry_at(group, at, at + 1, entry),
+        Place::Vacant(at) => {
+            if group.count < ENTRIES_LIMIT {
                 return put_entry_at(group, at, at, entry);
             }
             group
@@ -237,11 +228,11 @@ pub fn put_entry(group: Group, entry: BlockCacheEntry) -> Group
 pub fn put_master(masters: MasterGroup, block: MasterBlock) -> MasterGroup
     ensures { λ r. ⌜ r ≡ put-master block masters ⌝ }
 {
-    let found = find(masters.group, block.entry.block_id.seqno);
+    let found = entry_place(masters.group, block.entry.block_id.seqno);
     match found {
-        Found::At(at) => put_master_at(masters, at, at + 1, block),
-        Found::Vacant(at) => {
-            if masters.group.count < 16 {
+        Place::At(at) => put_master_at(masters, at, at + 1, block),
+        Place::Vacant(at) => {
+            if masters.group.count < ENTRIES_LIMIT {
                 return put_master_at(masters, at, at, block);
             }
             masters
@@ -254,7 +245,7 @@ fn retains(rule: Retained, entry: BlockCacheEntry) -> bool
     ensures { λ r. ⌜ r ≡ retains rule entry ⌝ }
 {
     let seqno = entry.block_id.seqno;
-    let received = is_received(entry);
+    let received = held_received(entry);
     match rule {
         Retained::From(first) => first <= seqno,
         Retained::UpToOrReceived(last) => (seqno <= last) | received,
@@ -263,11 +254,11 @@ fn retains(rule: Retained, entry: BlockCacheEntry) -> bool
 }
 
 // A flag for each listed entry that stays.
-fn keep_flags(group: Group, rule: Retained) -> [bool; 16]
+fn keep_flags(group: Group, rule: Retained) -> [bool; ENTRIES_LIMIT]
     ensures { λ r. ⌜ r ≡ padded 16 false (each (retains rule) (listed-entries group)) ⌝ }
 {
-    let count = listed_count(group.count);
-    let mut keep = [false; 16];
+    let count = listed_count(group.count, ENTRIES_LIMIT);
+    let mut keep = [false; ENTRIES_LIMIT];
     let mut i: usize = 0;
     while i < count {
         keep[i] = retains(rule, group.entries[i]);
@@ -277,14 +268,14 @@ fn keep_flags(group: Group, rule: Retained) -> [bool; 16]
 }
 
 // The flagged entries.
-fn compact_entries(group: Group, keep: [bool; 16]) -> Group
+fn compact_entries(group: Group, keep: [bool; ENTRIES_LIMIT]) -> Group
     ensures { λ r. ⌜ r ≡ with-records (flagged keep (group .entries)) group ⌝ }
 {
     let zero = zero_entry();
-    let mut kept = [zero; 16];
+    let mut kept = [zero; ENTRIES_LIMIT];
     let mut n: usize = 0;
     let mut i: usize = 0;
-    while i < 16 {
+    while i < ENTRIES_LIMIT {
         if keep[i] {
             kept[n] = group.entries[i];
             n += 1;
@@ -302,14 +293,17 @@ fn compact_entries(group: Group, keep: [bool; 16]) -> Group
 }
 
 // The top items beside the flagged entries.
-fn compact_tops(tops: [TopBlocks; 16], keep: [bool; 16]) -> [TopBlocks; 16]
+fn compact_tops(
+    tops: [TopBlocks; ENTRIES_LIMIT],
+    keep: [bool; ENTRIES_LIMIT],
+) -> [TopBlocks; ENTRIES_LIMIT]
     ensures { λ r. ⌜ r ≡ padded 16 zero-tops (flagged keep tops) ⌝ }
 {
     let zero = zero_tops();
-    let mut out = [zero; 16];
+    let mut out = [zero; ENTRIES_LIMIT];
     let mut n: usize = 0;
     let mut i: usize = 0;
-    while i < 16 {
+    while i < ENTRIES_LIMIT {
         if keep[i] {
             out[n] = tops[i];
             n += 1;
@@ -339,14 +333,6 @@ pub fn retain_masters(masters: MasterGroup, rule: Retained) -> MasterGroup
         group: kept,
         tops: kept_tops,
     }
-}
-
-// Without the entry of a seqno.
-pub fn remove_entry(group: Group, seqno: u32) -> Group
-    ensures { λ r. ⌜ r ≡ remove-entry seqno group ⌝ }
-{
-    let rule = Retained::AllBut(seqno);
-    retain_entries(group, rule)
 }
 
 // Without the master block of a seqno.

@@ -1,8 +1,8 @@
 // Document 01, Group: the synced mark and its rule.
 ghost use mathlib.Core.Path.{_≡_};
-ghost use Rattle.block_records.specs.Lists.{present};
-ghost use Rattle.blocks_group.specs.GroupRules.{given-mark, refreshed};
-ghost use Rattle.blocks_group.specs.GroupLayout.{checked-mark, pack-mark, view-mark};
+ghost use Rattle.blocks_group.specs.arrays.Store.{known-synced};
+ghost use Rattle.blocks_group.specs.layout.Group.{check-mark, pack-mark, view-mark};
+ghost use Rattle.blocks_group.specs.rules.Group.{given-mark, refreshed-mark};
 
 pub enum Mark {
     Absent,
@@ -17,7 +17,7 @@ pub struct CheckedMark {
 
 // Whether the mark's rule gives a mark.
 pub(crate) fn known_synced(seqno: u32, mark: Mark) -> bool
-    ensures { λ r. ⌜ r ≡ present (given-mark seqno (view-mark mark)) ⌝ }
+    ensures { λ r. ⌜ r ≡ known-synced seqno mark ⌝ }
 {
     match mark {
         Mark::Absent => false,
@@ -27,7 +27,7 @@ pub(crate) fn known_synced(seqno: u32, mark: Mark) -> bool
 
 // The mark after the mark's rule.
 pub fn refreshed_mark(seqno: u32, mark: Mark) -> Mark
-    ensures { λ r. ⌜ r ≡ pack-mark (refreshed seqno (view-mark mark)) ⌝ }
+    ensures { λ r. ⌜ r ≡ pack-mark (refreshed-mark seqno (view-mark mark)) ⌝ }
 {
     match mark {
         Mark::Absent => Mark::At(seqno),
@@ -59,7 +59,7 @@ fn given_mark(seqno: u32, mark: Mark) -> Mark
 
 // The mark's rule whole, from mark to mark.
 pub fn check_mark(mark: Mark, seqno: u32) -> CheckedMark
-    ensures { λ r. ⌜ r ≡ checked-mark seqno mark ⌝ }
+    ensures { λ r. ⌜ r ≡ check-mark seqno mark ⌝ }
 {
     let given = given_mark(seqno, mark);
     let after = refreshed_mark(seqno, mark);

@@ -1,12 +1,9 @@
 // Document 01, Whole cache: what pop, peek, collect and remove next collated ask of one group.
 ghost use mathlib.Core.Path.{_≡_};
 ghost use lib.Dec.{ltb};
-ghost use Rattle.block_records.specs.Lists.{pick};
-ghost use Rattle.blocks_group.specs.GroupArrays.{record-seqno};
-ghost use Rattle.blocks_group.specs.GroupQueries.{record-applied-from, record-applied-above, first-applied-place, first-applied-master, any-applied-above};
-ghost use Rattle.blocks_group.specs.GroupQueries.{pack-seqno, view-seqno, chosen, higher-of, lower-of, highest-seqno, seqnos-of, record-below, highest-below-boundary};
-ghost use Rattle.blocks_group.specs.GroupQueries.{record-collated-above, lowest-collated-above, collect-group, collect-masters};
-ghost use Rattle.blocks_group.specs.GroupQueries.{remove-collated-above, remove-collated-masters-above};
+ghost use Rattle.block_records.specs.rules.Lists.{pick};
+ghost use Rattle.blocks_group.specs.arrays.Group.{held-seqno};
+ghost use Rattle.blocks_group.specs.arrays.Queries.{any-applied-above, chosen, collect-group, collect-masters, first-applied-master, first-applied-place, held-applied-above, held-applied-from, held-below, held-collated-above, higher-of, highest-below-boundary, highest-seqno, lower-of, lowest-collated-above, pack-seqno, remove-collated-above, remove-collated-masters-above, seqnos-of, view-seqno};
 use crate::group::Boundary;
 use crate::group::Group;
 use crate::group::MasterAt;
@@ -15,11 +12,12 @@ use crate::group::Retained;
 use crate::group::master_in_place;
 use crate::group::retain_entries;
 use crate::group::retain_masters;
-use crate::search::Found;
 use block_records::entry::BlockCacheEntry;
-use block_records::entry::is_applied;
-use block_records::entry::is_received;
+use block_records::entry::held_applied;
+use block_records::entry::held_received;
 use block_records::entry::zero_master;
+use block_records::limits::ENTRIES_LIMIT;
+use block_records::place::Place;
 
 // A seqno, or none.
 pub enum SeqnoOption {
@@ -29,36 +27,36 @@ pub enum SeqnoOption {
 
 // ===== applied entries =====
 
-fn is_applied_from(entry: BlockCacheEntry, from: u32) -> bool
-    ensures { λ r. ⌜ r ≡ record-applied-from from entry ⌝ }
+fn held_applied_from(entry: BlockCacheEntry, from: u32) -> bool
+    ensures { λ r. ⌜ r ≡ held-applied-from from entry ⌝ }
 {
-    let applied = is_applied(entry);
+    let applied = held_applied(entry);
     (from <= entry.block_id.seqno) & applied
 }
 
-fn is_applied_above(entry: BlockCacheEntry, seqno: u32) -> bool
-    ensures { λ r. ⌜ r ≡ record-applied-above seqno entry ⌝ }
+fn held_applied_above(entry: BlockCacheEntry, seqno: u32) -> bool
+    ensures { λ r. ⌜ r ≡ held-applied-above seqno entry ⌝ }
 {
-    let applied = is_applied(entry);
+    let applied = held_applied(entry);
     (seqno < entry.block_id.seqno) & applied
 }
 
 // The place of the first applied entry at or above a seqno.
-fn first_applied_place(group: Group, from: u32) -> Found
+fn first_applied_place(group: Group, from: u32) -> Place
     ensures { λ r. ⌜ r ≡ first-applied-place from group ⌝ }
 {
     let count = group.count;
     let mut i: usize = 0;
-    while i < 16 {
+    while i < ENTRIES_LIMIT {
         if count <= i {
-            return Found::Vacant(i);
+            return Place::Vacant(i);
         }
-        if is_applied_from(group.entries[i], from) {
-            return Found::At(i);
+        if held_applied_from(group.entries[i], from) {
+            return Place::At(i);
         }
         i += 1;
     }
-    Found::Vacant(i)
+    Place::Vacant(i)
 }
 
 // The lowest applied master at or above a seqno, with its top items.
@@ -66,7 +64,7 @@ pub fn first_applied_master(masters: MasterGroup, from: u32) -> MasterAt
     ensures { λ r. ⌜ r ≡ first-applied-master from masters ⌝ }
 {
     let found = first_applied_place(masters.group, from);
-    let Found::At(at) = found else {
+    let Place::At(at) = found else {
         let zero = zero_master();
         return MasterAt { found, block: zero };
     };
@@ -75,16 +73,16 @@ pub fn first_applied_master(masters: MasterGroup, from: u32) -> MasterAt
 }
 
 // Whether an applied entry lies above a seqno.
-pub fn applied_above(group: Group, seqno: u32) -> bool
+pub fn any_applied_above(group: Group, seqno: u32) -> bool
     ensures { λ r. ⌜ r ≡ any-applied-above seqno group ⌝ }
 {
     let count = group.count;
     let mut i: usize = 0;
-    while i < 16 {
+    while i < ENTRIES_LIMIT {
         if count <= i {
             return false;
         }
-        if is_applied_above(group.entries[i], seqno) {
+        if held_applied_above(group.entries[i], seqno) {
             return true;
         }
         i += 1;
@@ -115,12 +113,12 @@ fn higher_below(best: SeqnoOption, seqno: u32, limit: u32) -> SeqnoOption
 
 // The highest seqno of the entries below a seqno.
 fn highest_below(group: Group, limit: u32) -> SeqnoOption
-    ensures { λ r. ⌜ r ≡ pack-seqno (highest-seqno (seqnos-of (record-below limit) group)) ⌝ }
+    ensures { λ r. ⌜ r ≡ pack-seqno (highest-seqno (seqnos-of (held-below limit) group)) ⌝ }
 {
     let count = group.count;
     let mut best = SeqnoOption::Absent;
     let mut i: usize = 0;
-    while i < 16 {
+    while i < ENTRIES_LIMIT {
         if count <= i {
             return best;
         }
@@ -167,18 +165,18 @@ pub fn collect_masters(masters: MasterGroup) -> MasterGroup
 
 // ===== remove next collated: non-Received entries above a seqno go =====
 
-fn is_collated_above(entry: BlockCacheEntry, seqno: u32) -> bool
-    ensures { λ r. ⌜ r ≡ record-collated-above seqno entry ⌝ }
+fn held_collated_above(entry: BlockCacheEntry, seqno: u32) -> bool
+    ensures { λ r. ⌜ r ≡ held-collated-above seqno entry ⌝ }
 {
-    let received = is_received(entry);
+    let received = held_received(entry);
     (seqno < entry.block_id.seqno) & !received
 }
 
 // One entry more: its seqno if it is removed and below the best so far.
 fn lower_collated(best: SeqnoOption, entry: BlockCacheEntry, seqno: u32) -> SeqnoOption
-    ensures { λ r. ⌜ r ≡ pick (record-collated-above seqno entry) (pack-seqno (chosen lower-of (view-seqno best) (record-seqno entry))) best ⌝ }
+    ensures { λ r. ⌜ r ≡ pick (held-collated-above seqno entry) (pack-seqno (chosen lower-of (view-seqno best) (held-seqno entry))) best ⌝ }
 {
-    if !is_collated_above(entry, seqno) {
+    if !held_collated_above(entry, seqno) {
         return best;
     }
     let own = entry.block_id.seqno;
@@ -201,7 +199,7 @@ pub fn lowest_collated_above(group: Group, seqno: u32) -> SeqnoOption
     let count = group.count;
     let mut best = SeqnoOption::Absent;
     let mut i: usize = 0;
-    while i < 16 {
+    while i < ENTRIES_LIMIT {
         if count <= i {
             return best;
         }

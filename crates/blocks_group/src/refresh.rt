@@ -1,7 +1,7 @@
 // Document 01, Group: the mark is refreshed in the group that the caller lends.
 ghost use mathlib.Core.Path.{_≡_};
-ghost use Rattle.blocks_group.specs.GroupLayout.{checked-mark};
-ghost use Rattle.blocks_group.specs.GroupStores.{refresh-group, refresh-masters};
+ghost use Rattle.blocks_group.specs.arrays.Store.{refresh-group, refresh-masters};
+ghost use Rattle.blocks_group.specs.layout.Group.{check-mark};
 use crate::group::Group;
 use crate::group::MasterGroup;
 use crate::mark::Mark;
@@ -9,7 +9,7 @@ use crate::mark::check_mark;
 
 // The mark's rule in a lent group; the mark that it gives is the answer.
 pub fn check_refresh_last_known_synced(group: &mut Group, seqno: u32) -> Mark
-    ensures { λ r. ⌜ (r ≡ checked-mark seqno (now (group .entry) .mark) .given) × (now (group .exit) ≡ refresh-group seqno (now (group .entry))) ⌝ }
+    ensures { λ r. ⌜ (r ≡ check-mark seqno (now (group .entry) .mark) .given) × (now (group .exit) ≡ refresh-group seqno (now (group .entry))) ⌝ }
 {
     let known = group.mark;
     let checked = check_mark(known, seqno);

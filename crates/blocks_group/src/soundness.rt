@@ -1,13 +1,11 @@
 // Document 01, question 1 of one group: order, counts and shards, its boundary, questions 2 to 4 of every entry, zeros in unused places.
 ghost use mathlib.Core.Path.{_≡_};
-ghost use Rattle.block_records.specs.BlockIds.{is-masterchain};
-ghost use Rattle.block_records.specs.Lists.{all, rising};
-ghost use Rattle.blocks_group.specs.GroupArrays.{beside, listed-entries, record-before};
-ghost use Rattle.blocks_group.specs.GroupLayout.{sound-group, sound-master-group, same-mark, same-boundary, is-zero-group};
-ghost use Rattle.blocks_group.specs.declared.mark.Mark.the-variants.{Absent as mark-absent};
-ghost use Rattle.blocks_group.specs.declared.group.Boundary.the-variants.{Absent as boundary-absent};
-ghost use Rattle.blocks_group.specs.GroupParts.{boundary-held, master-sound, record-sound, tops-zeros-from, zeros-from};
-ghost use Rattle.blocks_group.specs.GroupSoundness.{of-shard};
+ghost use Rattle.block_records.specs.rules.BlockId.{is-masterchain};
+ghost use Rattle.block_records.specs.rules.Lists.{every, rising};
+ghost use Rattle.blocks_group.specs.arrays.Group.{beside, held-before, listed-entries};
+ghost use Rattle.blocks_group.specs.arrays.Soundness.{entries-zero-beyond, held-boundary-in, sound-entry, sound-master, tops-zero-beyond};
+ghost use Rattle.blocks_group.specs.layout.Group.{is-zero-boundary, is-zero-group, is-zero-mark, sound-group, sound-master-group};
+ghost use Rattle.blocks_group.specs.rules.Soundness.{of-shard};
 use crate::group::Boundary;
 use crate::group::Group;
 use crate::group::MasterGroup;
@@ -20,46 +18,47 @@ use block_records::block_id::same_shard;
 use block_records::entry::BlockCacheEntry;
 use block_records::entry::entry_tidy;
 use block_records::entry::is_zero_entry;
-use block_records::questions::entry_fits;
-use block_records::questions::shard_entry_fits;
+use block_records::limits::ENTRIES_LIMIT;
+use block_records::questions::held_entry_fits;
+use block_records::questions::held_shard_entry_fits;
 use block_records::top_block::TopBlocks;
 use block_records::top_block::is_zero_tops;
 use block_records::top_block::tops_tidy;
 
 // ===== the listed entries =====
 
-fn entry_sound(entry: BlockCacheEntry, shard: ShardIdent) -> bool
-    ensures { λ r. ⌜ r ≡ record-sound (of-shard shard) entry ⌝ }
+fn sound_entry(entry: BlockCacheEntry, shard: ShardIdent) -> bool
+    ensures { λ r. ⌜ r ≡ sound-entry (of-shard shard) entry ⌝ }
 {
     let t = entry_tidy(entry);
     let own = id_shard(entry.block_id);
     let s = same_shard(own, shard);
-    let f = shard_entry_fits(entry);
+    let f = held_shard_entry_fits(entry);
     t & (s & f)
 }
 
 // The same of a master with its top items.
-fn master_sound(entry: BlockCacheEntry, tops: TopBlocks) -> bool
-    ensures { λ r. ⌜ r ≡ master-sound (record { entry = entry; tops = tops }) ⌝ }
+fn sound_master(entry: BlockCacheEntry, tops: TopBlocks) -> bool
+    ensures { λ r. ⌜ r ≡ sound-master (record { entry = entry; tops = tops }) ⌝ }
 {
     let t = entry_tidy(entry);
     let i = tops_tidy(tops);
     let own = id_shard(entry.block_id);
     let m = is_masterchain(own);
-    let f = entry_fits(entry, tops);
+    let f = held_entry_fits(entry, tops);
     t & (i & (m & f))
 }
 
-fn masters_sound(group: Group, tops: [TopBlocks; 16]) -> bool
-    ensures { λ r. ⌜ r ≡ all master-sound (beside (listed-entries group) tops) ⌝ }
+fn sound_masters(group: Group, tops: [TopBlocks; ENTRIES_LIMIT]) -> bool
+    ensures { λ r. ⌜ r ≡ every sound-master (beside (listed-entries group) tops) ⌝ }
 {
     let count = group.count;
     let mut i: usize = 0;
-    while i < 16 {
+    while i < ENTRIES_LIMIT {
         if count <= i {
             return true;
         }
-        if !master_sound(group.entries[i], tops[i]) {
+        if !sound_master(group.entries[i], tops[i]) {
             return false;
         }
         i += 1;
@@ -70,12 +69,12 @@ fn masters_sound(group: Group, tops: [TopBlocks; 16]) -> bool
 // ===== order: each seqno above the one before it =====
 
 fn seqnos_rise(group: Group) -> bool
-    ensures { λ r. ⌜ r ≡ rising record-before (listed-entries group) ⌝ }
+    ensures { λ r. ⌜ r ≡ rising held-before (listed-entries group) ⌝ }
 {
     let count = group.count;
     let mut last = group.entries[0].block_id.seqno;
     let mut i: usize = 1;
-    while i < 16 {
+    while i < ENTRIES_LIMIT {
         if count <= i {
             return true;
         }
@@ -91,11 +90,11 @@ fn seqnos_rise(group: Group) -> bool
 
 // ===== zeros in unused places =====
 
-fn entries_zero(group: Group) -> bool
-    ensures { λ r. ⌜ r ≡ zeros-from (group .count) (group .entries) ⌝ }
+fn entries_zero_beyond(group: Group) -> bool
+    ensures { λ r. ⌜ r ≡ entries-zero-beyond (group .count) (group .entries) ⌝ }
 {
     let mut i: usize = group.count;
-    while i < 16 {
+    while i < ENTRIES_LIMIT {
         if !is_zero_entry(group.entries[i]) {
             return false;
         }
@@ -104,11 +103,11 @@ fn entries_zero(group: Group) -> bool
     true
 }
 
-fn tops_zero(tops: [TopBlocks; 16], from: usize) -> bool
-    ensures { λ r. ⌜ r ≡ tops-zeros-from from tops ⌝ }
+fn tops_zero_beyond(tops: [TopBlocks; ENTRIES_LIMIT], from: usize) -> bool
+    ensures { λ r. ⌜ r ≡ tops-zero-beyond from tops ⌝ }
 {
     let mut i: usize = from;
-    while i < 16 {
+    while i < ENTRIES_LIMIT {
         if !is_zero_tops(tops[i]) {
             return false;
         }
@@ -120,7 +119,7 @@ fn tops_zero(tops: [TopBlocks; 16], from: usize) -> bool
 // ===== the boundary =====
 
 fn boundary_in_shard(boundary: Boundary, shard: ShardIdent) -> bool
-    ensures { λ r. ⌜ r ≡ boundary-held (of-shard shard) boundary ⌝ }
+    ensures { λ r. ⌜ r ≡ held-boundary-in (of-shard shard) boundary ⌝ }
 {
     match boundary {
         Boundary::Absent => true,
@@ -132,7 +131,7 @@ fn boundary_in_shard(boundary: Boundary, shard: ShardIdent) -> bool
 }
 
 fn boundary_in_masterchain(boundary: Boundary) -> bool
-    ensures { λ r. ⌜ r ≡ boundary-held is-masterchain boundary ⌝ }
+    ensures { λ r. ⌜ r ≡ held-boundary-in is-masterchain boundary ⌝ }
 {
     match boundary {
         Boundary::Absent => true,
@@ -145,8 +144,8 @@ fn boundary_in_masterchain(boundary: Boundary) -> bool
 
 // ===== a group of zeros, as it stands in an unused place =====
 
-fn no_mark(mark: Mark) -> bool
-    ensures { λ r. ⌜ r ≡ same-mark mark mark-absent ⌝ }
+fn is_zero_mark(mark: Mark) -> bool
+    ensures { λ r. ⌜ r ≡ is-zero-mark mark ⌝ }
 {
     match mark {
         Mark::Absent => true,
@@ -154,8 +153,8 @@ fn no_mark(mark: Mark) -> bool
     }
 }
 
-fn no_boundary(boundary: Boundary) -> bool
-    ensures { λ r. ⌜ r ≡ same-boundary boundary boundary-absent ⌝ }
+fn is_zero_boundary(boundary: Boundary) -> bool
+    ensures { λ r. ⌜ r ≡ is-zero-boundary boundary ⌝ }
 {
     match boundary {
         Boundary::Absent => true,
@@ -168,10 +167,10 @@ pub fn is_zero_group(group: Group) -> bool
 {
     let c = group.count == 0;
     let mark = group.mark;
-    let m = no_mark(mark);
+    let m = is_zero_mark(mark);
     let boundary = group.boundary;
-    let b = no_boundary(boundary);
-    let z = entries_zero(group);
+    let b = is_zero_boundary(boundary);
+    let z = entries_zero_beyond(group);
     c & (m & (b & z))
 }
 
@@ -182,7 +181,7 @@ pub fn sound_group(group: Group, shard: ShardIdent) -> bool
     ensures { λ r. ⌜ r ≡ sound-group (of-shard shard) group ⌝ }
 {
     let count = group.count;
-    if 16 < count {
+    if ENTRIES_LIMIT < count {
         return false;
     }
     let boundary = group.boundary;
@@ -191,7 +190,7 @@ pub fn sound_group(group: Group, shard: ShardIdent) -> bool
     }
     let mut last: u32 = 0;
     let mut i: usize = 0;
-    while i < 16 {
+    while i < ENTRIES_LIMIT {
         let entry = group.entries[i];
         if count <= i {
             if !is_zero_entry(entry) {
@@ -200,7 +199,7 @@ pub fn sound_group(group: Group, shard: ShardIdent) -> bool
             i += 1;
             continue;
         }
-        if !entry_sound(entry, shard) {
+        if !sound_entry(entry, shard) {
             return false;
         }
         if (entry.block_id.seqno <= last) & (0 < i) {
@@ -217,11 +216,11 @@ pub fn sound_master_group(masters: MasterGroup) -> bool
 {
     let group = masters.group;
     let tops = masters.tops;
-    let c = group.count <= 16;
-    let e = masters_sound(group, tops);
+    let c = group.count <= ENTRIES_LIMIT;
+    let e = sound_masters(group, tops);
     let o = seqnos_rise(group);
-    let z = entries_zero(group);
-    let t = tops_zero(tops, group.count);
+    let z = entries_zero_beyond(group);
+    let t = tops_zero_beyond(tops, group.count);
     let boundary = group.boundary;
     let b = boundary_in_masterchain(boundary);
     c & (e & (o & (z & (t & b))))

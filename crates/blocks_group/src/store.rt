@@ -1,14 +1,9 @@
 // Document 01, Group: the collated and the received store of one group. A shard's group and the master group share their steps.
-ghost use mathlib.Core.Path.{_≡_};
-ghost use mathlib.Core.Bool.{false, true};
 ghost use mathlib.Core.Option.{none, some};
-ghost use Rattle.block_records.specs.Lists.{present};
-ghost use Rattle.block_records.specs.Zeros.{zero-tops};
-ghost use Rattle.blocks_group.specs.GroupArrays.{when-found};
-ghost use Rattle.blocks_group.specs.GroupLayout.{view-mark};
-ghost use Rattle.blocks_group.specs.GroupRules.{collated-kind, given-mark, received-kind};
-ghost use Rattle.blocks_group.specs.GroupStores.{pack-step, refused-step, stored-step, with-block-data, collated-step, received-step};
-ghost use Rattle.blocks_group.specs.GroupStores.{store-collated-block, store-collated-master, store-received-block, store-received-master};
+ghost use mathlib.Core.Path.{_≡_};
+ghost use Rattle.blocks_group.specs.arrays.Group.{when-found};
+ghost use Rattle.blocks_group.specs.arrays.Store.{collated-step, group-synced, pack-step, received-step, refused-step, store-collated-block, store-collated-master, store-received-block, store-received-master, stored-step, with-block-data, without-tops};
+ghost use Rattle.blocks_group.specs.rules.Group.{collated-kind, received-kind};
 use crate::group::Group;
 use crate::group::MasterGroup;
 use crate::group::entry_at;
@@ -18,7 +13,6 @@ use crate::group::put_master;
 use crate::mark::known_synced;
 use crate::refresh::refresh_group;
 use crate::refresh::refresh_masters;
-use crate::search::Found;
 use block_records::block_id::id_shard;
 use block_records::block_id::is_masterchain;
 use block_records::block_id::same_id;
@@ -28,8 +22,10 @@ use block_records::entry::CandidateStatus;
 use block_records::entry::MasterBlock;
 use block_records::entry::fresh_collated_master;
 use block_records::entry::fresh_received_master;
-use block_records::entry::is_received;
+use block_records::entry::held_received;
 use block_records::entry::with_data;
+use block_records::limits::ENTRIES_LIMIT;
+use block_records::place::Place;
 use block_records::store_records::Anchor;
 use block_records::store_records::BlockCandidate;
 use block_records::store_records::ReceivedBlock;
@@ -160,17 +156,17 @@ fn with_block_data(block: MasterBlock, data: BlockCacheEntryData) -> MasterBlock
 }
 
 // The collated store, by whether there is room for one more entry and what stands at the candidate's seqno.
-fn collated_step(c: BlockCandidate, room: bool, found: Found, block: MasterBlock) -> StoreStep
+fn collated_step(c: BlockCandidate, room: bool, found: Place, block: MasterBlock) -> StoreStep
     ensures { λ r. ⌜ r ≡ pack-step block (collated-step c room (when-found found block)) ⌝ }
 {
-    let Found::At(_) = found else {
+    let Place::At(_) = found else {
         if room {
             let fresh = fresh_collated_master(c);
             return stored_step(false, false, fresh);
         }
         return refused_step(8, block);
     };
-    if !is_received(block.entry) {
+    if !held_received(block.entry) {
         return refused_step(7, block);
     }
     if !same_id(block.entry.block_id, c.block_id) {
@@ -188,19 +184,19 @@ fn received_step(
     zerostate: u32,
     r: ReceivedBlock,
     room: bool,
-    found: Found,
+    found: Place,
     block: MasterBlock,
 ) -> StoreStep
     ensures { λ s. ⌜ s ≡ pack-step block (received-step zerostate r room (when-found found block)) ⌝ }
 {
-    let Found::At(_) = found else {
+    let Place::At(_) = found else {
         if room {
             let fresh = fresh_received_master(zerostate, r);
             return stored_step(false, false, fresh);
         }
         return refused_step(8, block);
     };
-    if is_received(block.entry) {
+    if held_received(block.entry) {
         return refused_step(7, block);
     }
     if !same_id(block.entry.block_id, r.block_id) {
@@ -217,8 +213,8 @@ fn received_step(
 // ===== the stores =====
 
 // Whether the mark's rule gives a mark of this group.
-fn synced_in(group: Group, seqno: u32) -> bool
-    ensures { λ r. ⌜ r ≡ present (given-mark seqno (view-mark (group .mark))) ⌝ }
+fn group_synced(group: Group, seqno: u32) -> bool
+    ensures { λ r. ⌜ r ≡ group-synced seqno group ⌝ }
 {
     let mark = group.mark;
     known_synced(seqno, mark)
@@ -227,8 +223,8 @@ fn synced_in(group: Group, seqno: u32) -> bool
 // ===== a shard's group =====
 
 // A shard's entry as the steps take it: it has no top items.
-fn shard_block(entry: BlockCacheEntry) -> MasterBlock
-    ensures { λ r. ⌜ r ≡ record { entry = entry; tops = zero-tops } ⌝ }
+fn without_tops(entry: BlockCacheEntry) -> MasterBlock
+    ensures { λ r. ⌜ r ≡ without-tops entry ⌝ }
 {
     let tops = zero_tops();
     MasterBlock { entry, tops }
@@ -239,8 +235,8 @@ pub fn store_collated_block(group: Group, c: BlockCandidate) -> GroupStore
 {
     let at = entry_at(group, c.block_id.seqno);
     let found = at.found;
-    let block = shard_block(at.entry);
-    let room = group.count < 16;
+    let block = without_tops(at.entry);
+    let room = group.count < ENTRIES_LIMIT;
     let step = collated_step(c, room, found, block);
     let answer = step.answer;
     if step.changed {
@@ -255,7 +251,7 @@ pub fn store_received_block(zerostate: u32, group: Group, r: ReceivedBlock) -> G
     ensures { λ s. ⌜ s ≡ store-received-block zerostate r group ⌝ }
 {
     let seqno = r.block_id.seqno;
-    if synced_in(group, seqno) {
+    if group_synced(group, seqno) {
         return GroupStore {
             answer: StoreAnswer::Synced,
             group,
@@ -263,8 +259,8 @@ pub fn store_received_block(zerostate: u32, group: Group, r: ReceivedBlock) -> G
     }
     let at = entry_at(group, seqno);
     let found = at.found;
-    let block = shard_block(at.entry);
-    let room = group.count < 16;
+    let block = without_tops(at.entry);
+    let room = group.count < ENTRIES_LIMIT;
     let step = received_step(zerostate, r, room, found, block);
     let answer = step.answer;
     if step.changed {
@@ -285,7 +281,7 @@ pub fn store_collated_master(masters: MasterGroup, c: BlockCandidate) -> MasterS
 {
     let at = master_at(masters, c.block_id.seqno);
     let found = at.found;
-    let room = masters.group.count < 16;
+    let room = masters.group.count < ENTRIES_LIMIT;
     let step = collated_step(c, room, found, at.block);
     let answer = step.answer;
     if step.changed {
@@ -303,7 +299,7 @@ pub fn store_received_master(zerostate: u32, masters: MasterGroup, r: ReceivedBl
     ensures { λ s. ⌜ s ≡ store-received-master zerostate r masters ⌝ }
 {
     let seqno = r.block_id.seqno;
-    if synced_in(masters.group, seqno) {
+    if group_synced(masters.group, seqno) {
         return MasterStore {
             answer: StoreAnswer::Synced,
             masters,
@@ -311,7 +307,7 @@ pub fn store_received_master(zerostate: u32, masters: MasterGroup, r: ReceivedBl
     }
     let at = master_at(masters, seqno);
     let found = at.found;
-    let room = masters.group.count < 16;
+    let room = masters.group.count < ENTRIES_LIMIT;
     let step = received_step(zerostate, r, room, found, at.block);
     let answer = step.answer;
     if step.changed {

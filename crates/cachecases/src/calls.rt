@@ -13,12 +13,12 @@ use block_records::top_block::zero_top;
 use block_records::top_block::zero_tops;
 use blocks_cache::cache::Cache;
 use blocks_cache::cache::empty;
-use blocks_cache::lent::ArrayExtract;
-use blocks_cache::lent::pop_to_array;
-use blocks_cache::lent::sync_to_array;
 use blocks_cache::stores::BlockCacheStoreResult;
 use blocks_cache::stores::store_collated;
 use blocks_cache::stores::store_received;
+use blocks_cache::subgraphs::ArrayExtract;
+use blocks_cache::subgraphs::pop_to_array;
+use blocks_cache::subgraphs::sync_to_array;
 
 fn block(workchain: i32, prefix: u64, seqno: u32, root: u8) -> BlockId {
     BlockId {

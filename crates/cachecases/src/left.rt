@@ -4,9 +4,9 @@ use block_records::block_id::same_id;
 use block_records::entry::BlockCacheEntryData;
 use blocks_cache::cache::Cache;
 use blocks_cache::extraction::ExtractAnswer;
-use blocks_cache::lent::ArrayExtract;
 use blocks_cache::master_data::AppliedRange;
 use blocks_cache::stores::BlockCacheStoreResult;
+use blocks_cache::subgraphs::ArrayExtract;
 use blocks_group::mark::Mark;
 use blocks_group::store::StoreAnswer;
 

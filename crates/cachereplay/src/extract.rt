@@ -15,7 +15,7 @@ use crate::times::since;
 use block_records::block_id::BlockId;
 use block_records::entry::BlockCacheEntry;
 use blocks_cache::cache::Cache;
-use blocks_cache::lent::ArrayExtract;
+use blocks_cache::subgraphs::ArrayExtract;
 
 // The places that can be lent, and how many are.
 pub struct Lent {

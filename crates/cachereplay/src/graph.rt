@@ -7,16 +7,21 @@ use crate::output::put_text;
 use crate::spell::put_key;
 use crate::spell::put_shard;
 use block_records::block_id::BlockId;
+use block_records::block_id::id_shard;
 use block_records::block_id::key;
 use block_records::block_id::same_id;
+use block_records::block_id::same_shard;
 use block_records::entry::BlockCacheEntry;
-use block_records::entry::is_received;
+use block_records::entry::held_received;
+use block_records::entry::zero_entry;
+use block_records::limits::SHARDS_LIMIT;
+use block_records::place::Place;
 use block_records::top_block::TopBlock;
 use block_records::top_block::TopBlocks;
 use blocks_cache::cache::Cache;
 use blocks_cache::cache::ShardGroup;
-use blocks_cache::lookup::entry_under;
-use blocks_group::search::Found;
+use blocks_group::group::EntryAt;
+use blocks_group::group::entry_at;
 
 fn put_name(out: &mut [u8], at: usize, id: BlockId) -> usize {
     let a = put(out, at, b'"');
@@ -25,7 +30,7 @@ fn put_name(out: &mut [u8], at: usize, id: BlockId) -> usize {
 }
 
 fn put_kind(out: &mut [u8], at: usize, entry: BlockCacheEntry) -> usize {
-    if is_received(entry) {
+    if held_received(entry) {
         return put_text(out, at, b" received");
     }
     put_text(out, at, b" collated")
@@ -82,6 +87,23 @@ fn put_cached(
     put_text(out, at, b";\n")
 }
 
+// The shard block that is cached under an id's shard and seqno.
+fn cached_under(cache: Cache, id: BlockId) -> EntryAt {
+    let shard = id_shard(id);
+    let mut i: usize = 0;
+    while i < SHARDS_LIMIT && i < cache.shard_count {
+        let held = cache.shards[i];
+        if same_shard(held.shard, shard) {
+            return entry_at(held.group, id.seqno);
+        }
+        i += 1;
+    }
+    EntryAt {
+        found: Place::Vacant(0),
+        entry: zero_entry(),
+    }
+}
+
 // An edge to a shard block, seen from a master of a seqno.
 fn put_reference(
     cache: Cache,
@@ -92,9 +114,9 @@ fn put_reference(
     master: u32,
 ) -> usize {
     let a = put_edge(out, at, from, to);
-    let cached = entry_under(cache, key(to));
+    let cached = cached_under(cache, to);
     let found = cached.found;
-    let Found::At(place) = found else {
+    let Place::At(place) = found else {
         return put_text(out, a, b" [style=dotted];\n");
     };
     put_cached(out, a, cached.entry, to, master)

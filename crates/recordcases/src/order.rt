@@ -8,7 +8,6 @@ use block_records::block_id::key;
 use block_records::block_id::less_id;
 use block_records::block_id::less_shard;
 use block_records::block_id::same_id;
-use block_records::block_id::same_key;
 use block_records::block_id::same_shard;
 
 // The id with one byte of its root hash set.
@@ -119,8 +118,6 @@ fn sides(t: Tally) -> Tally {
     out = out.expect(less_shard(id_shard(s), id_shard(top)));
     out = out.expect(same_shard(id_shard(m), id_shard(block(-1, 6))));
     out = out.expect(!same_shard(id_shard(m), id_shard(low)));
-    out = out.expect(same_key(key(m), key(with_root(m, 0, 1))));
-    out = out.expect(!same_key(key(m), key(block(-1, 6))));
     out
 }
 

@@ -1,23 +1,23 @@
 // Questions 2 to 4 at each limit and one past it: of candidates, received records, cached entries and keys.
 use crate::tally::Tally;
 use crate::tally::block;
+use crate::tally::no_candidate;
+use crate::tally::no_received;
 use block_records::block_id::BlockId;
 use block_records::block_id::key;
 use block_records::entry::fresh_collated;
+use block_records::limits::KEYS_LIMIT;
+use block_records::limits::TOPS_LIMIT;
 use block_records::questions::Refusal;
 use block_records::questions::candidate_refusal;
-use block_records::questions::entry_fits;
-use block_records::questions::entry_refusal;
+use block_records::questions::held_entry_fits;
+use block_records::questions::held_shard_entry_fits;
 use block_records::questions::keys_refusal;
 use block_records::questions::received_refusal;
-use block_records::questions::shard_entry_fits;
 use block_records::store_records::BlockCandidate;
 use block_records::store_records::Keys;
 use block_records::store_records::PrevIds;
-use block_records::store_records::ReceivedBlock;
-use block_records::store_records::zero_candidate;
 use block_records::store_records::zero_keys;
-use block_records::store_records::zero_received;
 use block_records::top_block::TopBlock;
 use block_records::top_block::TopBlocks;
 use block_records::top_block::zero_tops;
@@ -31,7 +31,7 @@ fn number(r: Refusal) -> u32 {
 }
 
 fn candidate(id: BlockId, prev: PrevIds, tops: TopBlocks) -> BlockCandidate {
-    let mut c = zero_candidate();
+    let mut c = no_candidate();
     c.block_id = id;
     c.ref_by_mc_seqno = 5;
     c.prev_ids = prev;
@@ -59,7 +59,7 @@ fn tops(reference: u32, id: BlockId, count: usize) -> TopBlocks {
         updated: true,
     };
     TopBlocks {
-        items: [item; 8],
+        items: [item; TOPS_LIMIT],
         count,
     }
 }
@@ -67,7 +67,7 @@ fn tops(reference: u32, id: BlockId, count: usize) -> TopBlocks {
 // The first refusal of a candidate, and the same asked of a received record and of a cached entry.
 fn asked(t: Tally, id: BlockId, p: PrevIds, ts: TopBlocks, expected: u32) -> Tally {
     let c = candidate(id, p, ts);
-    let mut r = zero_received();
+    let mut r = no_received();
     r.block_id = id;
     r.ref_block_id = block(-1, 5);
     r.prev_ids = p;
@@ -78,8 +78,7 @@ fn asked(t: Tally, id: BlockId, p: PrevIds, ts: TopBlocks, expected: u32) -> Tal
     let mut out = t;
     out = out.expect(number(candidate_refusal(c)) == expected);
     out = out.expect(number(received_refusal(r)) == expected);
-    out = out.expect(number(entry_refusal(e, ts)) == expected);
-    out = out.expect(entry_fits(e, ts) == fits);
+    out = out.expect(held_entry_fits(e, ts) == fits);
     out
 }
 
@@ -108,9 +107,9 @@ fn seqnos(t: Tally) -> Tally {
 
 // The reference seqno of a candidate and of a received record.
 fn references(t: Tally) -> Tally {
-    let mut c = zero_candidate();
+    let mut c = no_candidate();
     c.ref_by_mc_seqno = 4_294_967_294;
-    let mut r = zero_received();
+    let mut r = no_received();
     r.ref_block_id = block(-1, 4_294_967_294);
     let mut out = t;
     out = out.expect(number(candidate_refusal(c)) == 0);
@@ -178,8 +177,8 @@ fn shard_entry(t: Tally, id: BlockId, p: PrevIds, expected: bool) -> Tally {
     let mut e = fresh_collated(candidate(id, p, none));
     e.prev_ids = p;
     let mut out = t;
-    out = out.expect(shard_entry_fits(e) == expected);
-    out = out.expect(entry_fits(e, none) == expected);
+    out = out.expect(held_shard_entry_fits(e) == expected);
+    out = out.expect(held_entry_fits(e, none) == expected);
     out
 }
 
@@ -200,7 +199,7 @@ fn shard_entries(t: Tally) -> Tally {
 fn keys(seqno: u32, last: u32, count: usize) -> Keys {
     let mut out = zero_keys();
     let k = key(block(0, seqno));
-    let mut all = [k; 9];
+    let mut all = [k; KEYS_LIMIT];
     all[8] = key(block(-1, last));
     out.keys = all;
     out.count = count;

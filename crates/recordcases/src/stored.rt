@@ -1,6 +1,8 @@
 // What is stored of a record: spare places as zeros, a received record at the zerostate, its top anchor; applied entries; zeros.
 use crate::tally::Tally;
 use crate::tally::block;
+use crate::tally::no_candidate;
+use crate::tally::no_received;
 use block_records::block_id::is_zero_id;
 use block_records::entry::BlockCacheEntry;
 use block_records::entry::BlockCacheEntryData;
@@ -9,27 +11,19 @@ use block_records::entry::entry_tidy;
 use block_records::entry::fresh_collated;
 use block_records::entry::fresh_collated_master;
 use block_records::entry::fresh_received;
-use block_records::entry::is_applied;
-use block_records::entry::is_received;
+use block_records::entry::held_applied;
+use block_records::entry::held_received;
 use block_records::entry::is_zero_entry;
-use block_records::entry::is_zero_master;
 use block_records::entry::kind_number;
-use block_records::entry::same_entry;
 use block_records::entry::status_number;
 use block_records::entry::with_data;
 use block_records::entry::zero_entry;
-use block_records::entry::zero_master;
+use block_records::limits::TOPS_LIMIT;
 use block_records::store_records::Anchor;
 use block_records::store_records::PrevIds;
 use block_records::store_records::ReceivedBlock;
 use block_records::store_records::is_zero_anchor;
-use block_records::store_records::is_zero_candidate;
-use block_records::store_records::is_zero_keys;
 use block_records::store_records::is_zero_prev_ids;
-use block_records::store_records::is_zero_received;
-use block_records::store_records::zero_candidate;
-use block_records::store_records::zero_keys;
-use block_records::store_records::zero_received;
 use block_records::top_block::TopBlock;
 use block_records::top_block::TopBlocks;
 use block_records::top_block::is_zero_top;
@@ -53,13 +47,13 @@ fn littered_tops() -> TopBlocks {
         updated: true,
     };
     TopBlocks {
-        items: [item; 8],
+        items: [item; TOPS_LIMIT],
         count: 3,
     }
 }
 
 fn spare_places(t: Tally) -> Tally {
-    let mut c = zero_candidate();
+    let mut c = no_candidate();
     c.block_id = block(-1, 5);
     c.prev_ids = littered();
     c.top_blocks = littered_tops();
@@ -81,13 +75,13 @@ fn spare_places(t: Tally) -> Tally {
     out = out.expect(m.tops.count == 3);
     out = out.expect(!is_zero_top(third));
     out = out.expect(is_zero_top(fourth));
-    out = out.expect(same_entry(m.entry, e));
+    out = out.expect(entry_tidy(m.entry));
     out
 }
 
 // A count past the capacity stores every place there is.
 fn long_counts(t: Tally) -> Tally {
-    let mut c = zero_candidate();
+    let mut c = no_candidate();
     let mut p = littered();
     p.count = 3;
     c.prev_ids = p;
@@ -102,7 +96,7 @@ fn long_counts(t: Tally) -> Tally {
 }
 
 fn received(workchain: i32, reference: u32) -> ReceivedBlock {
-    let r = zero_received();
+    let r = no_received();
     let ts = r.top_blocks;
     ReceivedBlock {
         block_id: block(workchain, 6),
@@ -128,8 +122,8 @@ fn received_records(t: Tally) -> Tally {
     out = out.expect(!is_zero_anchor(ma));
     out = out.expect(is_zero_anchor(sa));
     out = out.expect(m.ref_by_mc_seqno == 6);
-    out = out.expect(is_received(m));
-    out = out.expect(is_applied(m));
+    out = out.expect(held_received(m));
+    out = out.expect(held_applied(m));
     out
 }
 
@@ -150,9 +144,9 @@ fn applied(t: Tally) -> Tally {
     let no = collated(false);
     let k = yes.data;
     let mut out = t;
-    out = out.expect(is_applied(yes));
-    out = out.expect(!is_applied(no));
-    out = out.expect(!is_received(yes));
+    out = out.expect(held_applied(yes));
+    out = out.expect(!held_applied(no));
+    out = out.expect(!held_received(yes));
     out = out.expect(kind_number(k) == 0);
     out = out.expect(status_number(CandidateStatus::Collated) == 0);
     out = out.expect(status_number(CandidateStatus::Validated) == 1);
@@ -162,19 +156,9 @@ fn applied(t: Tally) -> Tally {
 }
 
 fn zeros(t: Tally) -> Tally {
-    let mut c = zero_candidate();
-    let mut r = zero_received();
     let mut out = t;
     out = out.expect(is_zero_entry(zero_entry()));
     out = out.expect(!is_zero_entry(collated(false)));
-    out = out.expect(is_zero_master(zero_master()));
-    out = out.expect(is_zero_keys(zero_keys()));
-    out = out.expect(is_zero_candidate(c));
-    out = out.expect(is_zero_received(r));
-    c.payload = 1;
-    r.payload = 1;
-    out = out.expect(!is_zero_candidate(c));
-    out = out.expect(!is_zero_received(r));
     out
 }
 

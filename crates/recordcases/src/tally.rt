@@ -1,6 +1,11 @@
 // How many cases ran, and how many were wrong; and the records that the cases are made of.
 use block_records::block_id::BlockId;
 use block_records::block_id::zero_id;
+use block_records::store_records::Anchor;
+use block_records::store_records::BlockCandidate;
+use block_records::store_records::ReceivedBlock;
+use block_records::store_records::zero_prev_ids;
+use block_records::top_block::zero_tops;
 
 pub struct Tally {
     pub ran: u64,
@@ -40,4 +45,29 @@ pub fn block(workchain: i32, seqno: u32) -> BlockId {
     id.prefix = 0x8000_0000_0000_0000;
     id.seqno = seqno;
     id
+}
+
+// A candidate of zeros.
+pub fn no_candidate() -> BlockCandidate {
+    BlockCandidate {
+        block_id: zero_id(),
+        ref_by_mc_seqno: 0,
+        prev_ids: zero_prev_ids(),
+        top_blocks: zero_tops(),
+        top_anchor: Anchor::Absent,
+        processed_to_anchor: 0,
+        payload: 0,
+    }
+}
+
+// A received record of zeros.
+pub fn no_received() -> ReceivedBlock {
+    ReceivedBlock {
+        block_id: zero_id(),
+        ref_block_id: zero_id(),
+        prev_ids: zero_prev_ids(),
+        top_blocks: zero_tops(),
+        top_anchor: Anchor::Absent,
+        payload: 0,
+    }
 }

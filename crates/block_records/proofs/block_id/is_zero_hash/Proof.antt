@@ -7,10 +7,10 @@ use native.Mathlib.Omega.{arith}
 use borrow.Author.Needs.{needs}
 use lib.Dec.{eqb}
 use lib.ListN.{length, take, getD}
-use Rattle.block_records.proofs.LoopLaws.{flag-end, flag-next}
-use Rattle.block_records.proofs.TidyLaws.{same-replicate}
-use Rattle.block_records.specs.Lists.{all}
-use Rattle.block_records.specs.Zeros.{zero-hash}
+use Rattle.block_records.proofs.arrays.LoopLaws.{flag-end, flag-next}
+use Rattle.block_records.proofs.layout.TidyLaws.{same-replicate}
+use Rattle.block_records.specs.rules.Lists.{every}
+use Rattle.block_records.specs.layout.Zeros.{zero-hash}
 use Rattle.block_records.proofs.block_id.is_zero_hash.Statement.{statement}
 use Rattle.block_records.proofs.block_id.is_zero_hash.Tie as tie
 
@@ -18,7 +18,7 @@ abbrev is-zero : ℕ → Bool
 is-zero b = eqb b 0
 
 abbrev Inv-loop : tie.InvT-loop
-Inv-loop hash zero₀ i₀ zero i = (i ≤ 32) × (zero ≡ all is-zero (take i hash))
+Inv-loop hash zero₀ i₀ zero i = (i ≤ 32) × (zero ≡ every is-zero (take i hash))
 
 abbrev μ-loop : tie.MeasureT-loop
 μ-loop hash zero₀ i₀ zero i = 32 - i

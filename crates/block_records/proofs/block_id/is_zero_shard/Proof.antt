@@ -1,5 +1,5 @@
 -- Assumes nothing.
-use Rattle.block_records.specs.BlockIds.{same-shard}
+use Rattle.block_records.specs.rules.BlockId.{same-shard}
 use mathlib.Core.Path.{ap, _∙_}
 use borrow.Author.Needs.{needs}
 use Rattle.block_records.proofs.block_id.is_zero_shard.Statement.{statement}

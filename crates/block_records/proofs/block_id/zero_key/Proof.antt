@@ -1,6 +1,6 @@
 -- Assumes nothing.
 use mathlib.Core.Path.{refl}
-use Rattle.block_records.specs.Zeros.{zero-key}
+use Rattle.block_records.specs.layout.Zeros.{zero-key}
 use Rattle.block_records.proofs.block_id.zero_key.Statement.{statement}
 use Rattle.block_records.proofs.block_id.zero_key.Tie as tie
 

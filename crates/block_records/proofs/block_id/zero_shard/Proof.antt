@@ -1,6 +1,6 @@
 -- Assumes nothing.
 use mathlib.Core.Path.{refl}
-use Rattle.block_records.specs.Zeros.{zero-shard}
+use Rattle.block_records.specs.layout.Zeros.{zero-shard}
 use Rattle.block_records.proofs.block_id.zero_shard.Statement.{statement}
 use Rattle.block_records.proofs.block_id.zero_shard.Tie as tie
 

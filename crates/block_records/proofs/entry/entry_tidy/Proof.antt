@@ -1,5 +1,5 @@
 -- Assumes nothing.
-use Rattle.block_records.proofs.TidyLaws.{entry-tidy-is}
+use Rattle.block_records.proofs.layout.TidyLaws.{entry-tidy-is}
 use borrow.Author.Needs.{needs}
 use mathlib.Core.Path.{sym, _∙_}
 use Rattle.block_records.proofs.entry.entry_tidy.Statement.{statement}

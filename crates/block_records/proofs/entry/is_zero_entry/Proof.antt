@@ -1,6 +1,6 @@
 -- Assumes nothing.
-use Rattle.block_records.specs.Equality.{same-entry}
-use Rattle.block_records.specs.Zeros.{zero-entry}
+use Rattle.block_records.specs.layout.Equality.{same-entry}
+use Rattle.block_records.specs.layout.Zeros.{zero-entry}
 use borrow.Author.Needs.{needs}
 use Rattle.block_records.proofs.entry.is_zero_entry.Statement.{statement}
 use Rattle.block_records.proofs.entry.is_zero_entry.Tie as tie

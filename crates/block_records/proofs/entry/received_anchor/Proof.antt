@@ -1,5 +1,5 @@
 -- Assumes nothing.
-use Rattle.block_records.specs.BlockIds.{id-shard, is-masterchain}
+use Rattle.block_records.specs.rules.BlockId.{id-shard, is-masterchain}
 use mathlib.Core.Bool.{true, false}
 use mathlib.Core.Path.{_≡_}
 use borrow.Author.Needs.{needs}

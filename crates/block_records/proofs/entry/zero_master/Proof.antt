@@ -1,5 +1,5 @@
 -- Assumes nothing.
-use Rattle.block_records.specs.Zeros.{zero-master}
+use Rattle.block_records.specs.layout.Zeros.{zero-master}
 use borrow.Author.Needs.{needs}
 use Rattle.block_records.proofs.entry.zero_master.Statement.{statement}
 use Rattle.block_records.proofs.entry.zero_master.Tie as tie

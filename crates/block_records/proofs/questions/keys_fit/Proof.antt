@@ -7,15 +7,15 @@ use native.Mathlib.Omega.{arith}
 use borrow.Author.Needs.{needs}
 use borrow.Author.Tests.{not-true, not-false}
 use lib.ListN.{length, take}
-use Rattle.block_records.proofs.LoopLaws.{count-end, count-next, count-passed, count-stop, left, length-mapped}
-use Rattle.block_records.specs.Lists.{all}
-use Rattle.block_records.specs.Questions.{key-fits}
-use Rattle.block_records.specs.Zeros.{zero-key}
+use Rattle.block_records.proofs.arrays.LoopLaws.{count-end, count-next, count-passed, count-stop, left, length-mapped}
+use Rattle.block_records.specs.rules.Lists.{every}
+use Rattle.block_records.specs.rules.Questions.{key-fits}
+use Rattle.block_records.specs.layout.Zeros.{zero-key}
 use Rattle.block_records.proofs.questions.keys_fit.Statement.{statement}
 use Rattle.block_records.proofs.questions.keys_fit.Tie as tie
 
 abbrev Inv-loop : tie.InvT-loop
-Inv-loop keys count i₀ i = (i ≤ 9) × (all key-fits (take count keys) ≡ all key-fits (left keys count i))
+Inv-loop keys count i₀ i = (i ≤ 9) × (every key-fits (take count keys) ≡ every key-fits (left keys count i))
 
 abbrev μ-loop : tie.MeasureT-loop
 μ-loop keys count i₀ i = 9 - i

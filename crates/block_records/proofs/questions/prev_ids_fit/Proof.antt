@@ -7,15 +7,15 @@ use native.Mathlib.Omega.{arith}
 use borrow.Author.Needs.{needs}
 use borrow.Author.Tests.{not-true, not-false}
 use lib.ListN.{length, take}
-use Rattle.block_records.proofs.LoopLaws.{count-end, count-next, count-passed, count-stop, left, length-mapped}
-use Rattle.block_records.specs.Lists.{all}
-use Rattle.block_records.specs.Questions.{id-fits}
-use Rattle.block_records.specs.Zeros.{zero-id}
+use Rattle.block_records.proofs.arrays.LoopLaws.{count-end, count-next, count-passed, count-stop, left, length-mapped}
+use Rattle.block_records.specs.rules.Lists.{every}
+use Rattle.block_records.specs.rules.Questions.{id-fits}
+use Rattle.block_records.specs.layout.Zeros.{zero-id}
 use Rattle.block_records.proofs.questions.prev_ids_fit.Statement.{statement}
 use Rattle.block_records.proofs.questions.prev_ids_fit.Tie as tie
 
 abbrev Inv-loop : tie.InvT-loop
-Inv-loop ids count i₀ i = (i ≤ 2) × (all id-fits (take count ids) ≡ all id-fits (left ids count i))
+Inv-loop ids count i₀ i = (i ≤ 2) × (every id-fits (take count ids) ≡ every id-fits (left ids count i))
 
 abbrev μ-loop : tie.MeasureT-loop
 μ-loop ids count i₀ i = 2 - i

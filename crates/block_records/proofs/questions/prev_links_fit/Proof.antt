@@ -7,15 +7,15 @@ use native.Mathlib.Omega.{arith}
 use borrow.Author.Needs.{needs}
 use borrow.Author.Tests.{not-true, not-false}
 use lib.ListN.{length, take}
-use Rattle.block_records.proofs.LoopLaws.{count-end, count-next, count-passed, count-stop, left, length-mapped}
-use Rattle.block_records.specs.Lists.{all}
-use Rattle.block_records.specs.Questions.{previous-fits}
-use Rattle.block_records.specs.Zeros.{zero-id}
+use Rattle.block_records.proofs.arrays.LoopLaws.{count-end, count-next, count-passed, count-stop, left, length-mapped}
+use Rattle.block_records.specs.rules.Lists.{every}
+use Rattle.block_records.specs.rules.Questions.{previous-fits}
+use Rattle.block_records.specs.layout.Zeros.{zero-id}
 use Rattle.block_records.proofs.questions.prev_links_fit.Statement.{statement}
 use Rattle.block_records.proofs.questions.prev_links_fit.Tie as tie
 
 abbrev Inv-loop : tie.InvT-loop
-Inv-loop id ids count i₀ i = (i ≤ 2) × (all (previous-fits id) (take count ids) ≡ all (previous-fits id) (left ids count i))
+Inv-loop id ids count i₀ i = (i ≤ 2) × (every (previous-fits id) (take count ids) ≡ every (previous-fits id) (left ids count i))
 
 abbrev μ-loop : tie.MeasureT-loop
 μ-loop id ids count i₀ i = 2 - i

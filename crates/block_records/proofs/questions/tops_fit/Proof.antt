@@ -7,15 +7,15 @@ use native.Mathlib.Omega.{arith}
 use borrow.Author.Needs.{needs}
 use borrow.Author.Tests.{not-true, not-false}
 use lib.ListN.{length, take}
-use Rattle.block_records.proofs.LoopLaws.{count-end, count-next, count-passed, count-stop, left, length-mapped}
-use Rattle.block_records.specs.Lists.{all}
-use Rattle.block_records.specs.Questions.{top-fits}
-use Rattle.block_records.specs.Zeros.{zero-top}
+use Rattle.block_records.proofs.arrays.LoopLaws.{count-end, count-next, count-passed, count-stop, left, length-mapped}
+use Rattle.block_records.specs.rules.Lists.{every}
+use Rattle.block_records.specs.rules.Questions.{top-fits}
+use Rattle.block_records.specs.layout.Zeros.{zero-top}
 use Rattle.block_records.proofs.questions.tops_fit.Statement.{statement}
 use Rattle.block_records.proofs.questions.tops_fit.Tie as tie
 
 abbrev Inv-loop : tie.InvT-loop
-Inv-loop items count i₀ i = (i ≤ 8) × (all top-fits (take count items) ≡ all top-fits (left items count i))
+Inv-loop items count i₀ i = (i ≤ 8) × (every top-fits (take count items) ≡ every top-fits (left items count i))
 
 abbrev μ-loop : tie.MeasureT-loop
 μ-loop items count i₀ i = 8 - i

@@ -6,14 +6,14 @@ use native.Mathlib.Omega.{arith}
 use borrow.Author.Needs.{needs}
 use borrow.Author.Tests.{not-true, not-false}
 use lib.ListN.{length, drop}
-use Rattle.block_records.proofs.LoopLaws.{length-mapped, rest-end, rest-next, rest-stop}
-use Rattle.block_records.specs.Lists.{all}
-use Rattle.block_records.specs.Zeros.{is-zero-id, zero-id}
+use Rattle.block_records.proofs.arrays.LoopLaws.{length-mapped, rest-end, rest-next, rest-stop}
+use Rattle.block_records.specs.rules.Lists.{every}
+use Rattle.block_records.specs.layout.Zeros.{is-zero-id, zero-id}
 use Rattle.block_records.proofs.store_records.ids_zero_from.Statement.{statement}
 use Rattle.block_records.proofs.store_records.ids_zero_from.Tie as tie
 
 abbrev Inv-loop : tie.InvT-loop
-Inv-loop from ids i₀ i = all is-zero-id (drop from ids) ≡ all is-zero-id (drop i ids)
+Inv-loop from ids i₀ i = every is-zero-id (drop from ids) ≡ every is-zero-id (drop i ids)
 
 abbrev μ-loop : tie.MeasureT-loop
 μ-loop from ids i₀ i = 2 - i

@@ -1,8 +1,8 @@
 -- Assumes nothing.
-use Rattle.block_records.proofs.LoopLaws.{length-mapped}
-use Rattle.block_records.proofs.TidyLaws.{same-replicate}
-use Rattle.block_records.specs.BlockIds.{same-id}
-use Rattle.block_records.specs.Zeros.{zero-id, zero-prev-ids}
+use Rattle.block_records.proofs.arrays.LoopLaws.{length-mapped}
+use Rattle.block_records.proofs.layout.TidyLaws.{same-replicate}
+use Rattle.block_records.specs.rules.BlockId.{same-id}
+use Rattle.block_records.specs.layout.Zeros.{zero-id, zero-prev-ids}
 use lib.ListN.{length}
 use lib.Dec.{eqb}
 use borrow.Author.Needs.{needs}

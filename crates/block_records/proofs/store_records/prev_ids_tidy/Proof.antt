@@ -5,8 +5,8 @@ use mathlib.Core.Bool.{Bool, _&&_}
 use borrow.Author.Needs.{needs}
 use lib.Dec.{leb}
 use lib.ListN.{length}
-use Rattle.block_records.proofs.LoopLaws.{length-mapped}
-use Rattle.block_records.proofs.TidyLaws.{prev-ids-tidy-is}
+use Rattle.block_records.proofs.arrays.LoopLaws.{length-mapped}
+use Rattle.block_records.proofs.layout.TidyLaws.{prev-ids-tidy-is}
 use Rattle.block_records.proofs.store_records.prev_ids_tidy.Statement.{statement}
 use Rattle.block_records.proofs.store_records.prev_ids_tidy.Tie as tie
 

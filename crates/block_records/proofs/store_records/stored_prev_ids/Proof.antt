@@ -6,10 +6,10 @@ use native.Mathlib.Omega.{arith}
 use borrow.Author.Needs.{needs}
 use lib.ListN.{length, replicate, take}
 use Rattle.block_records.specs.declared.block_id.BlockId.{BlockId}
-use Rattle.block_records.proofs.ArrayLaws.{copy-count, copy-end, copy-next}
-use Rattle.block_records.proofs.LoopLaws.{length-mapped, padded-nil}
-use Rattle.block_records.specs.Lists.{padded}
-use Rattle.block_records.specs.Zeros.{zero-id}
+use Rattle.block_records.proofs.arrays.ArrayLaws.{copy-count, copy-end, copy-next}
+use Rattle.block_records.proofs.arrays.LoopLaws.{length-mapped, padded-nil}
+use Rattle.block_records.specs.rules.Lists.{padded}
+use Rattle.block_records.specs.layout.Zeros.{zero-id}
 use Rattle.block_records.proofs.store_records.stored_prev_ids.Statement.{statement}
 use Rattle.block_records.proofs.store_records.stored_prev_ids.Tie as tie
 

@@ -1,5 +1,5 @@
 -- Assumes nothing.
-use Rattle.block_records.specs.Zeros.{zero-keys}
+use Rattle.block_records.specs.layout.Zeros.{zero-keys}
 use borrow.Author.Needs.{needs}
 use Rattle.block_records.proofs.store_records.zero_keys.Statement.{statement}
 use Rattle.block_records.proofs.store_records.zero_keys.Tie as tie

@@ -1,5 +1,5 @@
 -- Assumes nothing.
-use Rattle.block_records.specs.Zeros.{zero-prev-ids}
+use Rattle.block_records.specs.layout.Zeros.{zero-prev-ids}
 use borrow.Author.Needs.{needs}
 use Rattle.block_records.proofs.store_records.zero_prev_ids.Statement.{statement}
 use Rattle.block_records.proofs.store_records.zero_prev_ids.Tie as tie

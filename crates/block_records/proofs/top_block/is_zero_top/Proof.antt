@@ -1,5 +1,5 @@
 -- Assumes nothing.
-use Rattle.block_records.specs.Zeros.{zero-top}
+use Rattle.block_records.specs.layout.Zeros.{zero-top}
 use borrow.Author.Needs.{needs}
 use Rattle.block_records.proofs.top_block.is_zero_top.Statement.{statement}
 use Rattle.block_records.proofs.top_block.is_zero_top.Tie as tie

@@ -1,8 +1,8 @@
 -- Assumes nothing.
-use Rattle.block_records.proofs.LoopLaws.{length-mapped}
-use Rattle.block_records.proofs.TidyLaws.{same-replicate}
-use Rattle.block_records.specs.Equality.{same-top}
-use Rattle.block_records.specs.Zeros.{zero-top, zero-tops}
+use Rattle.block_records.proofs.arrays.LoopLaws.{length-mapped}
+use Rattle.block_records.proofs.layout.TidyLaws.{same-replicate}
+use Rattle.block_records.specs.layout.Equality.{same-top}
+use Rattle.block_records.specs.layout.Zeros.{zero-top, zero-tops}
 use lib.ListN.{length}
 use lib.Dec.{eqb}
 use mathlib.Core.Bool.{Bool, _&&_}

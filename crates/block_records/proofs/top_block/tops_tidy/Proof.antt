@@ -1,7 +1,7 @@
 -- The count and the zeros are what `tops-tidy` asks, by the array's length.
 -- Assumes nothing.
-use Rattle.block_records.proofs.LoopLaws.{length-mapped}
-use Rattle.block_records.proofs.TidyLaws.{tops-tidy-is}
+use Rattle.block_records.proofs.arrays.LoopLaws.{length-mapped}
+use Rattle.block_records.proofs.layout.TidyLaws.{tops-tidy-is}
 use lib.ListN.{length}
 use lib.Dec.{leb}
 use mathlib.Core.Bool.{Bool, _&&_}

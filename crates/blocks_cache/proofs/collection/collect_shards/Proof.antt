@@ -4,9 +4,9 @@ use Prim.Native.Nat.{_-_, _≤_}
 use mathlib.Core.Path.{_∙_, _≡_, ap, refl, sym}
 use native.Mathlib.Omega.{arith}
 use lib.ListN.{length}
-use Rattle.block_records.proofs.LoopLaws.{length-mapped}
-use Rattle.blocks_cache.specs.Collections.{changed-first, collect-shard-group}
-use Rattle.blocks_cache.proofs.CollectionLaws.{collected-next, first-over}
+use Rattle.block_records.proofs.arrays.LoopLaws.{length-mapped}
+use Rattle.blocks_cache.specs.arrays.Collection.{changed-first, collect-shard-group}
+use Rattle.blocks_cache.proofs.arrays.CollectionLaws.{collected-next, changed-first-over}
 use borrow.Author.Needs.{needs}
 use Rattle.blocks_cache.proofs.collection.collect_shards.Statement.{statement}
 use Rattle.blocks_cache.proofs.collection.collect_shards.Tie as tie
@@ -66,7 +66,7 @@ returns-2 c =
     let s = h .before in
     let n = long s in
     let l = c .loop-test .left in
-    h .loop .inv .1 .1 ∙ first-over collect-shard-group (s .args .shards) (h .loop .i) (s .args .count) (omega arith) (omega (arith, h .loop .inv .1 .0))
+    h .loop .inv .1 .1 ∙ changed-first-over collect-shard-group (s .args .shards) (h .loop .i) (s .args .count) (omega arith) (omega (arith, h .loop .inv .1 .0))
 
 pub collect-shards-spec : {M : Type 1} → statement M
 collect-shards-spec =

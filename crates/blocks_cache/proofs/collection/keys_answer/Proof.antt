@@ -2,7 +2,7 @@
 -- Assumes nothing.
 use mathlib.Core.Path.{_∙_, sym}
 use borrow.Author.Tests.{not-false, not-true}
-use Rattle.blocks_cache.proofs.CollectionLaws.{keys-answered, keys-unsound}
+use Rattle.blocks_cache.proofs.arrays.CollectionLaws.{keys-answered, keys-unsound}
 use borrow.Author.Needs.{needs}
 use Rattle.blocks_cache.proofs.collection.keys_answer.Statement.{statement}
 use Rattle.blocks_cache.proofs.collection.keys_answer.Tie as tie

@@ -6,17 +6,17 @@ use native.Mathlib.Omega.{arith}
 use borrow.Author.Needs.{needs}
 use lib.ListN.{getD, length}
 use Rattle.block_records.specs.declared.block_id.BlockIdShort.{BlockIdShort}
-use Rattle.block_records.specs.Lists.{each}
-use Rattle.block_records.proofs.LoopLaws.{length-mapped}
+use Rattle.block_records.specs.rules.Lists.{each}
+use Rattle.block_records.proofs.arrays.LoopLaws.{length-mapped}
 use Rattle.blocks_cache.specs.declared.cache.Cache.{Cache}
-use Rattle.blocks_cache.specs.Collections.{remove-held}
-use Rattle.blocks_cache.specs.ShardArrays.{held-shard}
-use Rattle.blocks_cache.proofs.CollectionLaws.{KeysLeft, found-listed, found-long, found-stay, keys-next, keys-over, keys-passed, keys-start, remove-made, removes-masters, removes-shard, shard-known, shard-unknown}
+use Rattle.blocks_cache.specs.arrays.Collection.{held-remove-one}
+use Rattle.blocks_cache.specs.arrays.Shards.{shard-ident}
+use Rattle.blocks_cache.proofs.arrays.CollectionLaws.{KeysLeft, found-listed, found-long, found-stay, keys-next, keys-over, keys-passed, keys-start, remove-made, removes-masters, removes-shard, shard-known, shard-unknown}
 use Rattle.blocks_cache.proofs.collection.remove_all.Statement.{statement}
 use Rattle.blocks_cache.proofs.collection.remove_all.Tie as tie
 
 abbrev Inv-loop : tie.InvT-loop
-Inv-loop idents keys count out₀ i₀ out i = KeysLeft remove-held idents keys count out₀ out i
+Inv-loop idents keys count out₀ i₀ out i = KeysLeft held-remove-one idents keys count out₀ out i
 
 abbrev μ-loop : tie.MeasureT-loop
 μ-loop idents keys count out₀ i₀ out i = 9 - i
@@ -29,12 +29,12 @@ eight c = search (needs, length-mapped)
 
 -- a key more is obeyed
 next : (c : tie.After-short Inv-loop μ-loop) → let h = c .before .before .before in let k = h .before .before in let s = k .before .before in
-    (d : BlockIdShort) (r : Cache) → r ≡ remove-held (h .loop .out) (getD (s .args .given .keys) (h .loop .i) d) → length (r .shards) ≡ 8 → each held-shard (r .shards) ≡ k .shard-idents .result →
-    KeysLeft remove-held (k .shard-idents .result) (s .args .given .keys) (s .args .given .count) (s .args .cache) r (h .loop .i + 1)
+    (d : BlockIdShort) (r : Cache) → r ≡ held-remove-one (h .loop .out) (getD (s .args .given .keys) (h .loop .i) d) → length (r .shards) ≡ 8 → each shard-ident (r .shards) ≡ k .shard-idents .result →
+    KeysLeft held-remove-one (k .shard-idents .result) (s .args .given .keys) (s .args .given .count) (s .args .cache) r (h .loop .i + 1)
 next c d r e n x =
     let h = c .before .before .before in
     let s = h .before .before .before .before in
-    keys-next remove-held _ (s .args .given .keys) (nine s) _ _ _ _ (h .loop .inv) d (c .before .before .loop-test .taken) (c .before .if1 .left) r e n x
+    keys-next held-remove-one _ (s .args .given .keys) (nine s) _ _ _ _ (h .loop .inv) d (c .before .before .loop-test .taken) (c .before .if1 .left) r e n x
 
 -- the place of a group that is found
 listed : (c : tie.After-known-told Inv-loop μ-loop) → c .before .place .given .0 .0 < 8
@@ -47,10 +47,10 @@ shard-idents-requires : tie.Need-shard-idents-requires Inv-loop μ-loop
 shard-idents-requires c κs = search needs
 
 loop-holds : tie.Need-loop-holds Inv-loop μ-loop
-loop-holds c = let s = c .before .before .before in keys-start remove-held _ (s .args .given .keys) (nine s) (s .args .given .count) (s .args .cache) (eight s) (c .before .shard-idents .ensures)
+loop-holds c = let s = c .before .before .before in keys-start held-remove-one _ (s .args .given .keys) (nine s) (s .args .given .count) (s .args .cache) (eight s) (c .before .shard-idents .ensures)
 
 returns : tie.Need-returns Inv-loop μ-loop
-returns c = let h = c .before .before in let s = h .before .before .before .before in keys-passed remove-held _ (s .args .given .keys) (nine s) (s .args .given .count) (s .args .cache) (h .loop .out) (h .loop .i) (h .loop .inv) (c .if1 .taken)
+returns c = let h = c .before .before in let s = h .before .before .before .before in keys-passed held-remove-one _ (s .args .given .keys) (nine s) (s .args .given .count) (s .args .cache) (h .loop .out) (h .loop .i) (h .loop .inv) (c .if1 .taken)
 
 mul-short : tie.Need-mul-short Inv-loop μ-loop
 mul-short c = search needs
@@ -148,7 +148,7 @@ loop-again-3 c =
     (found-long _ o (v .long) (v .stay) (b .before .key-shard .result) _ _) (found-stay _ o (v .long) (v .stay) (b .before .key-shard .result) _ _ _)
 
 returns-2 : tie.Need-returns-2 Inv-loop μ-loop
-returns-2 c = let h = c .before in let s = h .before .before .before .before in keys-over remove-held _ (s .args .given .keys) (nine s) (s .args .given .count) (s .args .cache) (h .loop .out) (h .loop .i) (h .loop .inv) (c .loop-test .left)
+returns-2 c = let h = c .before in let s = h .before .before .before .before in keys-over held-remove-one _ (s .args .given .keys) (nine s) (s .args .given .count) (s .args .cache) (h .loop .out) (h .loop .i) (h .loop .inv) (c .loop-test .left)
 
 pub remove-all-spec : {M : Type 1} → statement M
 remove-all-spec =

@@ -1,13 +1,13 @@
 -- The questions, then each key in turn.
 -- Assumes nothing.
-use Rattle.block_records.specs.BlockIds.{listed-keys}
-use Rattle.block_records.specs.Lists.{fold}
-use Rattle.block_records.specs.Questions.{keys-questions}
+use Rattle.block_records.specs.rules.BlockId.{listed-keys}
+use Rattle.block_records.specs.rules.Lists.{fold}
+use Rattle.block_records.specs.rules.Questions.{keys-questions}
 use Rattle.blocks_cache.specs.declared.cache.Cache.{Cache}
-use Rattle.blocks_cache.specs.Model.{Model}
-use Rattle.blocks_cache.specs.Effects.{bound-one}
-use Rattle.blocks_cache.specs.Collections.{bound-held}
-use Rattle.blocks_cache.proofs.CollectionLaws.{asks-boundary, bound-packed, change-is, change-refuses, sets-boundary}
+use Rattle.cache_rules.specs.Model.{Model}
+use Rattle.cache_rules.specs.Effects.{bound-one}
+use Rattle.blocks_cache.specs.arrays.Collection.{held-bound-one}
+use Rattle.blocks_cache.proofs.arrays.CollectionLaws.{asks-boundary, bound-packed, change-is, change-refuses, sets-boundary}
 use borrow.Author.Needs.{needs}
 use Rattle.blocks_cache.proofs.collection.set_gc_to_boundary.Statement.{statement}
 use Rattle.blocks_cache.proofs.collection.set_gc_to_boundary.Tie as tie
@@ -25,7 +25,7 @@ returns : tie.Need-returns
 returns c =
     let s = c .before .before .before in
     let ks = s .args .to-blocks-keys in
-    change-refuses _ (keys-questions ks) (asks-boundary ks) (λ (x : Cache). fold bound-held x (listed-keys ks)) (λ (m : Model). fold bound-one m (listed-keys ks)) (sets-boundary ks) (bound-packed (listed-keys ks)) (s .args .cache) _ (c .before .before .keys-answer .ensures) _ (c .enum-told2 .given .1)
+    change-refuses _ (keys-questions ks) (asks-boundary ks) (λ (x : Cache). fold held-bound-one x (listed-keys ks)) (λ (m : Model). fold bound-one m (listed-keys ks)) (sets-boundary ks) (bound-packed (listed-keys ks)) (s .args .cache) _ (c .before .before .keys-answer .ensures) _ (c .enum-told2 .given .1)
 
 bound-all-requires : tie.Need-bound-all-requires
 bound-all-requires c κs = search needs
@@ -34,7 +34,7 @@ returns-2 : tie.Need-returns-2
 returns-2 c =
     let s = c .before .before .before .before in
     let ks = s .args .to-blocks-keys in
-    change-is _ (keys-questions ks) (asks-boundary ks) (λ (x : Cache). fold bound-held x (listed-keys ks)) (λ (m : Model). fold bound-one m (listed-keys ks)) (sets-boundary ks) (bound-packed (listed-keys ks)) (s .args .cache) _ (c .before .before .before .keys-answer .ensures) (c .before .enum-told .given .1) _ (c .bound-all .ensures)
+    change-is _ (keys-questions ks) (asks-boundary ks) (λ (x : Cache). fold held-bound-one x (listed-keys ks)) (λ (m : Model). fold bound-one m (listed-keys ks)) (sets-boundary ks) (bound-packed (listed-keys ks)) (s .args .cache) _ (c .before .before .before .keys-answer .ensures) (c .before .enum-told .given .1) _ (c .bound-all .ensures)
 
 pub set-gc-to-boundary-spec : {M : Type 1} → statement M
 set-gc-to-boundary-spec =

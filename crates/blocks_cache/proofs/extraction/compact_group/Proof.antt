@@ -5,12 +5,12 @@ use mathlib.Core.Logic.{⊎-elim}
 use Prim.Native.Nat.{_-_, _≤_}
 use native.Mathlib.Omega.{arith}
 use lib.ListN.{length}
-use Rattle.block_records.proofs.ArrayLaws.{Compacted, compact-end, compact-no, compact-start, compact-yes, getD-each}
-use Rattle.block_records.proofs.ListLaws.{length-each}
-use Rattle.block_records.proofs.LoopLaws.{length-mapped}
-use Rattle.block_records.specs.Lists.{each}
-use Rattle.block_records.specs.Zeros.{zero-entry}
-use Rattle.blocks_cache.specs.ExtractionArrays.{is-cached}
+use Rattle.block_records.proofs.arrays.ArrayLaws.{Compacted, compact-end, compact-no, compact-start, compact-yes, getD-each}
+use Rattle.block_records.proofs.rules.ListLaws.{length-each}
+use Rattle.block_records.proofs.arrays.LoopLaws.{length-mapped}
+use Rattle.block_records.specs.rules.Lists.{each}
+use Rattle.block_records.specs.layout.Zeros.{zero-entry}
+use Rattle.blocks_cache.specs.arrays.Extraction.{is-cached}
 use borrow.Author.Needs.{needs}
 use Rattle.blocks_cache.proofs.extraction.compact_group.Statement.{statement}
 use Rattle.blocks_cache.proofs.extraction.compact_group.Tie as tie

@@ -5,10 +5,10 @@ use Prim.Native.Nat.{_≤_, _-_, _+_}
 use native.Mathlib.Omega.{arith}
 use borrow.Author.Needs.{needs}
 use lib.ListN.{length, take, drop}
-use Rattle.block_records.proofs.LoopLaws.{length-mapped}
+use Rattle.block_records.proofs.arrays.LoopLaws.{length-mapped}
 use mathlib.Core.List.{_++_}
-use Rattle.blocks_cache.specs.ExtractionArrays.{compact-shards}
-use Rattle.blocks_cache.proofs.ExtractionArrayLaws.{compacted-next, in-place-end, length-compact}
+use Rattle.blocks_cache.specs.arrays.Extraction.{compact-shards}
+use Rattle.blocks_cache.proofs.arrays.ExtractionLaws.{compacted-next, in-place-end, length-compact}
 use Rattle.blocks_cache.proofs.extraction.compact_shards.Statement.{statement}
 use Rattle.blocks_cache.proofs.extraction.compact_shards.Tie as tie
 

@@ -5,11 +5,11 @@ use Prim.Native.Nat.{_≤_, _-_, _+_}
 use native.Mathlib.Omega.{arith}
 use borrow.Author.Needs.{needs}
 use lib.ListN.{length, take, drop}
-use Rattle.block_records.proofs.LoopLaws.{length-mapped}
-use Rattle.block_records.specs.Lists.{padded}
-use Rattle.block_records.specs.Zeros.{zero-entry}
-use Rattle.blocks_cache.specs.ExtractionArrays.{backwards}
-use Rattle.blocks_cache.proofs.ExtractionArrayLaws.{back-next, back-start}
+use Rattle.block_records.proofs.arrays.LoopLaws.{length-mapped}
+use Rattle.block_records.specs.rules.Lists.{padded}
+use Rattle.block_records.specs.layout.Zeros.{zero-entry}
+use Rattle.blocks_cache.specs.arrays.Extraction.{backwards}
+use Rattle.blocks_cache.proofs.arrays.ExtractionLaws.{back-next, back-start}
 use Rattle.blocks_cache.proofs.extraction.last_first.Statement.{statement}
 use Rattle.blocks_cache.proofs.extraction.last_first.Tie as tie
 

@@ -3,9 +3,9 @@
 use mathlib.Core.Path.{_≡_, sym, ap, _∙_}
 use lib.ListN.{replicate}
 use borrow.Author.Needs.{needs}
-use Rattle.block_records.proofs.LoopLaws.{padded-nil}
+use Rattle.block_records.proofs.arrays.LoopLaws.{padded-nil}
 use Rattle.block_records.specs.declared.entry.BlockCacheEntry.{BlockCacheEntry}
-use Rattle.block_records.specs.Zeros.{zero-entry}
+use Rattle.block_records.specs.layout.Zeros.{zero-entry}
 use Rattle.blocks_cache.proofs.extraction.no_extract.Statement.{statement}
 use Rattle.blocks_cache.proofs.extraction.no_extract.Tie as tie
 

@@ -4,10 +4,10 @@ use mathlib.Core.Path.{_∙_, _≡_, ap, refl, sym}
 use Prim.Native.Nat.{_-_, _≤_}
 use native.Mathlib.Omega.{arith}
 use lib.ListN.{length, take}
-use Rattle.block_records.proofs.ArrayLaws.{each-end, each-next, take-within, within-few}
-use Rattle.block_records.proofs.LoopLaws.{length-mapped, padded-nil}
-use Rattle.block_records.specs.Lists.{each, padded}
-use Rattle.blocks_cache.specs.Lookups.{no-seqno-here, seqno-here}
+use Rattle.block_records.proofs.arrays.ArrayLaws.{each-end, each-next, take-within, within-few}
+use Rattle.block_records.proofs.arrays.LoopLaws.{length-mapped, padded-nil}
+use Rattle.block_records.specs.rules.Lists.{each, padded}
+use Rattle.blocks_cache.specs.arrays.Lookup.{no-seqno-here, seqno-here}
 use borrow.Author.Needs.{needs}
 use Rattle.blocks_cache.proofs.lookup.group_seqnos.Statement.{statement}
 use Rattle.blocks_cache.proofs.lookup.group_seqnos.Tie as tie

@@ -1,5 +1,5 @@
 -- Assumes nothing.
-use Rattle.blocks_cache.specs.Lookups.{no-seqno-here, no-seqnos}
+use Rattle.blocks_cache.specs.arrays.Lookup.{no-seqno-here, no-seqnos}
 use Rattle.blocks_cache.proofs.lookup.no_seqnos.Statement.{statement}
 use Rattle.blocks_cache.proofs.lookup.no_seqnos.Tie as tie
 

@@ -5,12 +5,12 @@ use Prim.Native.Nat.{_≤_, _-_, _+_}
 use native.Mathlib.Omega.{arith}
 use borrow.Author.Needs.{needs}
 use lib.ListN.{length, take, drop}
-use Rattle.block_records.proofs.LoopLaws.{length-mapped}
-use Rattle.block_records.proofs.ArrayLaws.{each-end, each-next}
-use Rattle.block_records.proofs.LoopLaws.{padded-nil}
-use Rattle.block_records.specs.Lists.{each, padded}
-use Rattle.blocks_cache.proofs.ExtractionArrayLaws.{each-all}
-use Rattle.blocks_cache.specs.Lookups.{no-seqnos, shard-seqnos}
+use Rattle.block_records.proofs.arrays.LoopLaws.{length-mapped}
+use Rattle.block_records.proofs.arrays.ArrayLaws.{each-end, each-next}
+use Rattle.block_records.proofs.arrays.LoopLaws.{padded-nil}
+use Rattle.block_records.specs.rules.Lists.{each, padded}
+use Rattle.blocks_cache.proofs.arrays.ExtractionLaws.{each-all}
+use Rattle.blocks_cache.specs.arrays.Lookup.{no-seqnos, shard-seqnos}
 use Rattle.blocks_cache.proofs.lookup.shard_seqnos.Statement.{statement}
 use Rattle.blocks_cache.proofs.lookup.shard_seqnos.Tie as tie
 

@@ -6,12 +6,12 @@ use native.Mathlib.Omega.{arith}
 use borrow.Author.Needs.{needs}
 use borrow.Author.Tests.{eq-eqb, ne-eqb}
 use lib.ListN.{length}
-use Rattle.block_records.proofs.LoopLaws.{left, length-mapped}
-use Rattle.block_records.proofs.ScanLaws.{any-next, any-passed, any-stop}
-use Rattle.block_records.specs.Lists.{find, present}
-use Rattle.block_records.specs.Zeros.{zero-id}
-use Rattle.blocks_cache.proofs.MasterDataLaws.{listed-few, listed-left}
-use Rattle.blocks_cache.specs.MasterDataArrays.{has-id, id-at}
+use Rattle.block_records.proofs.arrays.LoopLaws.{left, length-mapped}
+use Rattle.block_records.proofs.arrays.ScanLaws.{any-next, any-passed, any-stop}
+use Rattle.block_records.specs.rules.Lists.{find, present}
+use Rattle.block_records.specs.layout.Zeros.{zero-id}
+use Rattle.blocks_cache.proofs.arrays.MasterDataLaws.{listed-few, listed-left}
+use Rattle.blocks_cache.specs.arrays.MasterData.{has-id, id-at}
 use Rattle.blocks_cache.proofs.master_data.has_id.Statement.{statement}
 use Rattle.blocks_cache.proofs.master_data.has_id.Tie as tie
 

@@ -4,8 +4,8 @@ use mathlib.Core.Bool.{_||_}
 use mathlib.Core.Path.{_≡_, ap₂, sym}
 use borrow.Author.Needs.{needs}
 use lib.ListN.{length}
-use Rattle.block_records.proofs.LoopLaws.{length-mapped}
-use Rattle.block_records.proofs.ScanLaws.{few-listed}
+use Rattle.block_records.proofs.arrays.LoopLaws.{length-mapped}
+use Rattle.block_records.proofs.arrays.ScanLaws.{few-listed}
 use Rattle.blocks_cache.proofs.master_data.has_place_for_id.Statement.{statement}
 use Rattle.blocks_cache.proofs.master_data.has_place_for_id.Tie as tie
 

@@ -5,12 +5,12 @@ use Prim.Native.Nat.{_≤_}
 use native.Mathlib.Omega.{arith}
 use borrow.Author.Needs.{needs}
 use lib.ListN.{length, take}
-use Rattle.block_records.proofs.LoopLaws.{length-mapped}
-use Rattle.block_records.proofs.ScanLaws.{last-take}
-use Rattle.block_records.specs.Lists.{last}
-use Rattle.block_records.specs.Zeros.{zero-id}
-use Rattle.blocks_cache.proofs.MasterDataLaws.{listed-few, listed-is}
-use Rattle.blocks_cache.specs.MasterDataArrays.{pack-last}
+use Rattle.block_records.proofs.arrays.LoopLaws.{length-mapped}
+use Rattle.block_records.proofs.arrays.ScanLaws.{last-take}
+use Rattle.block_records.specs.rules.Lists.{last}
+use Rattle.block_records.specs.layout.Zeros.{zero-id}
+use Rattle.blocks_cache.proofs.arrays.MasterDataLaws.{listed-few, listed-is}
+use Rattle.blocks_cache.specs.arrays.MasterData.{pack-last}
 use Rattle.blocks_cache.proofs.master_data.highest_id.Statement.{statement}
 use Rattle.blocks_cache.proofs.master_data.highest_id.Tie as tie
 

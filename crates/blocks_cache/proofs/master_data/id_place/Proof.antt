@@ -6,12 +6,12 @@ use native.Mathlib.Omega.{arith}
 use borrow.Author.Needs.{needs}
 use borrow.Author.Tests.{eq-eqb, ne-eqb, lt-ltb, le-ltb}
 use lib.ListN.{length}
-use Rattle.block_records.proofs.LoopLaws.{left, length-mapped}
-use Rattle.block_records.specs.Zeros.{zero-id}
-use Rattle.blocks_cache.proofs.MasterDataLaws.{listed-few, listed-is}
-use Rattle.blocks_cache.proofs.PlaceLaws.{place-found, place-gap, place-next, place-passed, place-start}
-use Rattle.blocks_cache.specs.MasterDataArrays.{id-at, id-below, listed-ids}
-use Rattle.blocks_cache.specs.Places.{place, place-from}
+use Rattle.block_records.proofs.arrays.LoopLaws.{left, length-mapped}
+use Rattle.block_records.specs.layout.Zeros.{zero-id}
+use Rattle.blocks_cache.proofs.arrays.MasterDataLaws.{listed-few, listed-is}
+use Rattle.block_records.proofs.arrays.PlaceLaws.{place-found, place-gap, place-next, place-passed, place-start}
+use Rattle.blocks_cache.specs.arrays.MasterData.{id-at, id-below, listed-ids}
+use Rattle.block_records.specs.arrays.Place.{place, place-from}
 use Rattle.blocks_cache.proofs.master_data.id_place.Statement.{statement}
 use Rattle.blocks_cache.proofs.master_data.id_place.Tie as tie
 

@@ -6,18 +6,18 @@ use native.Mathlib.Omega.{arith}
 use borrow.Author.Needs.{needs}
 use borrow.Author.Tests.{not-false, not-true}
 use lib.ListN.{length}
-use Rattle.block_records.proofs.LoopLaws.{count-next, count-passed, count-stop, left, length-mapped}
-use Rattle.block_records.specs.BlockIds.{is-masterchain}
-use Rattle.block_records.specs.Lists.{all}
-use Rattle.block_records.specs.Zeros.{zero-id}
-use Rattle.blocks_cache.proofs.MasterDataLaws.{listed-few, listed-left}
-use Rattle.blocks_cache.specs.MasterDataArrays.{listed-ids}
-use Rattle.blocks_cache.specs.Refusals.{id-masterchain}
+use Rattle.block_records.proofs.arrays.LoopLaws.{count-next, count-passed, count-stop, left, length-mapped}
+use Rattle.block_records.specs.rules.BlockId.{is-masterchain}
+use Rattle.block_records.specs.rules.Lists.{every}
+use Rattle.block_records.specs.layout.Zeros.{zero-id}
+use Rattle.blocks_cache.proofs.arrays.MasterDataLaws.{listed-few, listed-left}
+use Rattle.blocks_cache.specs.arrays.MasterData.{listed-ids}
+use Rattle.cache_rules.specs.Refusals.{id-masterchain}
 use Rattle.blocks_cache.proofs.master_data.ids_masterchain.Statement.{statement}
 use Rattle.blocks_cache.proofs.master_data.ids_masterchain.Tie as tie
 
 abbrev Inv-loop : tie.InvT-loop
-Inv-loop «data» count i₀ i = (i ≤ count) × (count ≤ 32) × (all id-masterchain (listed-ids «data») ≡ all id-masterchain (left («data» .ids) count i))
+Inv-loop «data» count i₀ i = (i ≤ count) × (count ≤ 32) × (every id-masterchain (listed-ids «data») ≡ every id-masterchain (left («data» .ids) count i))
 
 abbrev μ-loop : tie.MeasureT-loop
 μ-loop «data» count i₀ i = count - i
@@ -33,7 +33,7 @@ loop-holds c =
     let s = c .before in
     let n = long s in
     let e = listed-left (s .args .t1) n (c .listed-count .result) (c .listed-count .ensures) in
-    (search needs, listed-few (s .args .t1) n _ (c .listed-count .ensures), ap (all id-masterchain) (sym e))
+    (search needs, listed-few (s .args .t1) n _ (c .listed-count .ensures), ap (every id-masterchain) (sym e))
 
 mul-id : tie.Need-mul-id Inv-loop μ-loop
 mul-id c = search needs

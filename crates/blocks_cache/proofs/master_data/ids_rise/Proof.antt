@@ -7,15 +7,15 @@ use native.Mathlib.Omega.{arith}
 use borrow.Author.Needs.{needs}
 use borrow.Author.Tests.{le-ltb, lt-ltb}
 use lib.ListN.{length}
-use Rattle.block_records.proofs.ListLaws.{by-number}
-use Rattle.block_records.proofs.LoopLaws.{left, length-mapped}
-use Rattle.block_records.proofs.ScanLaws.{neighbours, rise-next, rise-passed, rise-stop, rising-neighbours}
-use Rattle.block_records.specs.Lists.{rising}
-use Rattle.block_records.specs.Zeros.{zero-id}
+use Rattle.block_records.proofs.rules.ListLaws.{by-number}
+use Rattle.block_records.proofs.arrays.LoopLaws.{left, length-mapped}
+use Rattle.block_records.proofs.arrays.ScanLaws.{neighbours, rise-next, rise-passed, rise-stop, rising-neighbours}
+use Rattle.block_records.specs.rules.Lists.{rising}
+use Rattle.block_records.specs.layout.Zeros.{zero-id}
 use Rattle.block_records.specs.declared.block_id.BlockId.{BlockId}
-use Rattle.blocks_cache.proofs.MasterDataLaws.{listed-few, listed-left}
-use Rattle.blocks_cache.specs.MasterDataArrays.{listed-ids}
-use Rattle.blocks_cache.specs.Model.{id-before}
+use Rattle.blocks_cache.proofs.arrays.MasterDataLaws.{listed-few, listed-left}
+use Rattle.blocks_cache.specs.arrays.MasterData.{listed-ids}
+use Rattle.cache_rules.specs.Model.{id-before}
 use Rattle.blocks_cache.proofs.master_data.ids_rise.Statement.{statement}
 use Rattle.blocks_cache.proofs.master_data.ids_rise.Tie as tie
 

@@ -6,14 +6,14 @@ use native.Mathlib.Omega.{arith}
 use borrow.Author.Needs.{needs}
 use borrow.Author.Tests.{not-false, not-true}
 use lib.ListN.{drop, length}
-use Rattle.block_records.proofs.LoopLaws.{length-mapped, rest-end, rest-next, rest-stop}
-use Rattle.block_records.specs.Lists.{all}
-use Rattle.block_records.specs.Zeros.{is-zero-id, zero-id}
+use Rattle.block_records.proofs.arrays.LoopLaws.{length-mapped, rest-end, rest-next, rest-stop}
+use Rattle.block_records.specs.rules.Lists.{every}
+use Rattle.block_records.specs.layout.Zeros.{is-zero-id, zero-id}
 use Rattle.blocks_cache.proofs.master_data.ids_zero_beyond.Statement.{statement}
 use Rattle.blocks_cache.proofs.master_data.ids_zero_beyond.Tie as tie
 
 abbrev Inv-loop : tie.InvT-loop
-Inv-loop «data» i₀ i = all is-zero-id (drop («data» .count) («data» .ids)) ≡ all is-zero-id (drop i («data» .ids))
+Inv-loop «data» i₀ i = every is-zero-id (drop («data» .count) («data» .ids)) ≡ every is-zero-id (drop i («data» .ids))
 
 abbrev μ-loop : tie.MeasureT-loop
 μ-loop «data» i₀ i = 32 - i

@@ -4,8 +4,8 @@ use mathlib.Core.Path.{_≡_, sym, _∙_}
 use native.Mathlib.Omega.{arith}
 use borrow.Author.Needs.{needs}
 use lib.ListN.{length}
-use Rattle.block_records.proofs.LoopLaws.{length-mapped}
-use Rattle.blocks_cache.proofs.MasterDataLaws.{id-inserts, id-replaces, put-id-full, put-id-inserts, put-id-replaces}
+use Rattle.block_records.proofs.arrays.LoopLaws.{length-mapped}
+use Rattle.blocks_cache.proofs.arrays.MasterDataLaws.{id-inserts, id-replaces, put-id-full, put-id-inserts, put-id-replaces}
 use Rattle.blocks_cache.proofs.master_data.put_id.Statement.{statement}
 use Rattle.blocks_cache.proofs.master_data.put_id.Tie as tie
 

@@ -6,13 +6,13 @@ use Prim.Native.Nat.{_-_, ℕ}
 use native.Mathlib.Omega.{arith}
 use borrow.Author.Needs.{needs}
 use lib.ListN.{length, take}
-use Rattle.block_records.proofs.ArrayLaws.{Splicing, splice-after, splice-before, splice-end, splice-here, splice-start}
-use Rattle.block_records.proofs.LoopLaws.{length-mapped}
-use Rattle.block_records.specs.Arrays.{Splices, spliced}
-use Rattle.block_records.specs.Lists.{padded}
-use Rattle.block_records.specs.Zeros.{zero-id}
-use Rattle.blocks_cache.proofs.MasterDataLaws.{listed-is}
-use Rattle.blocks_cache.specs.MasterDataArrays.{listed-count}
+use Rattle.block_records.proofs.arrays.ArrayLaws.{Splicing, splice-after, splice-before, splice-end, splice-here, splice-start}
+use Rattle.block_records.proofs.arrays.LoopLaws.{length-mapped}
+use Rattle.block_records.specs.arrays.Arrays.{Splices, spliced}
+use Rattle.block_records.specs.rules.Lists.{padded}
+use Rattle.block_records.specs.layout.Zeros.{zero-id}
+use Rattle.blocks_cache.proofs.arrays.MasterDataLaws.{listed-is}
+use Rattle.block_records.specs.arrays.Place.{listed-count}
 use Rattle.blocks_cache.proofs.master_data.put_id_at.Statement.{statement}
 use Rattle.blocks_cache.proofs.master_data.put_id_at.Tie as tie
 
@@ -25,7 +25,7 @@ abbrev μ-loop : tie.MeasureT-loop
 long : (c : tie.Start Inv-loop μ-loop) → length (c .args .t1 .ids) ≡ 32
 long c = search (needs, length-mapped)
 
-room : (c : tie.Start Inv-loop μ-loop) (k : ℕ) → k ≡ listed-count (c .args .t1 .count) → Splices 32 (c .args .at) (c .args .from) k
+room : (c : tie.Start Inv-loop μ-loop) (k : ℕ) → k ≡ listed-count (c .args .t1 .count) 32 → Splices 32 (c .args .at) (c .args .from) k
 room s k e = splice-start 32 zero-id (s .args .at) (s .args .from) (s .args .id) (s .args .t1 .ids) (s .args .t1 .count) (s .pre) (long s) k e .split
 
 zero-id-requires : tie.Need-zero-id-requires Inv-loop μ-loop

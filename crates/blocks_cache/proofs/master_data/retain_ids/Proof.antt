@@ -6,17 +6,17 @@ use Prim.Native.Nat.{_≤_, _-_}
 use native.Mathlib.Omega.{arith}
 use borrow.Author.Needs.{needs}
 use lib.ListN.{length}
-use Rattle.block_records.proofs.LoopLaws.{length-mapped}
-use Rattle.block_records.proofs.ScanLaws.{Retained, retain-end, retain-no, retain-start, retain-yes}
-use Rattle.block_records.specs.Lists.{filter, padded}
-use Rattle.block_records.specs.Zeros.{zero-id}
-use Rattle.blocks_cache.proofs.MasterDataLaws.{listed-few, listed-is}
-use Rattle.blocks_cache.specs.MasterDataArrays.{retains-id}
+use Rattle.block_records.proofs.arrays.LoopLaws.{length-mapped}
+use Rattle.block_records.proofs.arrays.ScanLaws.{RetainedSoFar, retain-end, retain-no, retain-start, retain-yes}
+use Rattle.block_records.specs.rules.Lists.{select, padded}
+use Rattle.block_records.specs.layout.Zeros.{zero-id}
+use Rattle.blocks_cache.proofs.arrays.MasterDataLaws.{listed-few, listed-is}
+use Rattle.blocks_cache.specs.arrays.MasterData.{retains-id}
 use Rattle.blocks_cache.proofs.master_data.retain_ids.Statement.{statement}
 use Rattle.blocks_cache.proofs.master_data.retain_ids.Tie as tie
 
 abbrev Inv-loop : tie.InvT-loop
-Inv-loop rule «data» ids₀ listed count₀ i₀ ids count i = (i ≤ listed) × (listed ≤ 32) × Retained (retains-id rule) 32 zero-id («data» .ids) i count ids
+Inv-loop rule «data» ids₀ listed count₀ i₀ ids count i = (i ≤ listed) × (listed ≤ 32) × RetainedSoFar (retains-id rule) 32 zero-id («data» .ids) i count ids
 
 abbrev μ-loop : tie.MeasureT-loop
 μ-loop rule «data» ids₀ listed count₀ i₀ ids count i = listed - i
@@ -84,8 +84,8 @@ returns c =
     let l = c .loop-test .left in
     let e = retain-end p 32 zero-id (s .args .t1 .ids) (h .loop .i) (h .loop .count) (h .loop .ids) (h .loop .inv .2) (v .listed-count .result) (omega arith) in
     let f = listed-is (s .args .t1) (long s) (v .listed-count .result) (v .listed-count .ensures) in
-    let a = e .1 ∙ ap (λ xs. padded 32 zero-id (filter p xs)) f in
-    let b = e .0 ∙ ap (λ xs. length (filter p xs)) f in
+    let a = e .1 ∙ ap (λ xs. padded 32 zero-id (select p xs)) f in
+    let b = e .0 ∙ ap (λ xs. length (select p xs)) f in
     λ i. record { ids = a i; count = b i; range = s .args .t1 .range }
 
 pub retain-ids-spec : {M : Type 1} → statement M

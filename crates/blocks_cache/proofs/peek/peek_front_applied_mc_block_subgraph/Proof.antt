@@ -2,7 +2,7 @@
 -- Assumes nothing.
 use mathlib.Core.Path.{_∙_, sym}
 use borrow.Author.Tests.{not-false, not-true}
-use Rattle.blocks_cache.proofs.PeekLaws.{peek-is, peek-refuses, peek-unsound}
+use Rattle.blocks_cache.proofs.arrays.PeekLaws.{peek-is, peek-refuses, peek-unsound}
 use borrow.Author.Needs.{needs}
 use Rattle.blocks_cache.proofs.peek.peek_front_applied_mc_block_subgraph.Statement.{statement}
 use Rattle.blocks_cache.proofs.peek.peek_front_applied_mc_block_subgraph.Tie as tie
@@ -25,11 +25,11 @@ zero-peek-requires-2 c κs = search needs
 returns-2 : tie.Need-returns-2
 returns-2 c = let s = c .before .before .before .before .before in peek-refuses (s .args .cache) (s .args .from) _ (sym (c .before .before .before .before .sound-cache .ensures) ∙ not-false (c .before .before .before .before .sound-cache .result) (c .before .before .before .if1 .left)) (sym (c .before .before .seqno-fits .ensures) ∙ not-true (c .before .before .seqno-fits .result) (c .before .if2 .taken)) (c .zero-peek2 .ensures)
 
-peek-master-requires : tie.Need-peek-master-requires
-peek-master-requires c κs = sym (c .before .before .before .sound-cache .ensures) ∙ not-false (c .before .before .before .sound-cache .result) (c .before .before .if1 .left)
+held-peek-requires : tie.Need-held-peek-requires
+held-peek-requires c κs = sym (c .before .before .before .sound-cache .ensures) ∙ not-false (c .before .before .before .sound-cache .result) (c .before .before .if1 .left)
 
 returns-3 : tie.Need-returns-3
-returns-3 c = let s = c .before .before .before .before .before in peek-is (s .args .cache) (s .args .from) _ (sym (c .before .before .before .before .sound-cache .ensures) ∙ not-false (c .before .before .before .before .sound-cache .result) (c .before .before .before .if1 .left)) (sym (c .before .before .seqno-fits .ensures) ∙ not-false (c .before .before .seqno-fits .result) (c .before .if2 .left)) (c .peek-master .ensures)
+returns-3 c = let s = c .before .before .before .before .before in peek-is (s .args .cache) (s .args .from) _ (sym (c .before .before .before .before .sound-cache .ensures) ∙ not-false (c .before .before .before .before .sound-cache .result) (c .before .before .before .if1 .left)) (sym (c .before .before .seqno-fits .ensures) ∙ not-false (c .before .before .seqno-fits .result) (c .before .if2 .left)) (c .held-peek .ensures)
 
 pub peek-front-applied-mc-block-subgraph-spec : {M : Type 1} → statement M
 peek-front-applied-mc-block-subgraph-spec =
@@ -41,5 +41,5 @@ peek-front-applied-mc-block-subgraph-spec =
     seqno-fits-requires
     zero-peek-requires-2
     returns-2
-    peek-master-requires
+    held-peek-requires
     returns-3)

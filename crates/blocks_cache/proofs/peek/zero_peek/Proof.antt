@@ -1,6 +1,6 @@
 -- Zeros beside the answer.
 -- Assumes nothing.
-use Rattle.blocks_cache.specs.Peeks.{zero-peek}
+use Rattle.blocks_cache.specs.arrays.Peek.{zero-peek}
 use borrow.Author.Needs.{needs}
 use Rattle.blocks_cache.proofs.peek.zero_peek.Statement.{statement}
 use Rattle.blocks_cache.proofs.peek.zero_peek.Tie as tie

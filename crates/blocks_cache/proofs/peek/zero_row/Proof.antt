@@ -1,6 +1,6 @@
 -- Zeros.
 -- Assumes nothing.
-use Rattle.blocks_cache.specs.Peeks.{zero-row}
+use Rattle.blocks_cache.specs.arrays.Peek.{zero-row}
 use borrow.Author.Needs.{needs}
 use Rattle.blocks_cache.proofs.peek.zero_row.Statement.{statement}
 use Rattle.blocks_cache.proofs.peek.zero_row.Tie as tie

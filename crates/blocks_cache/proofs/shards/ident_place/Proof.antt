@@ -6,12 +6,12 @@ use native.Mathlib.Omega.{arith}
 use borrow.Author.Needs.{needs}
 use borrow.Author.Tests.{not-false, not-true}
 use lib.ListN.{length, take}
-use Rattle.block_records.proofs.ArrayLaws.{take-within, within-few}
-use Rattle.block_records.proofs.LoopLaws.{left, length-mapped}
-use Rattle.blocks_cache.proofs.PlaceLaws.{place-found, place-gap, place-next, place-passed, place-start}
-use Rattle.block_records.specs.Zeros.{zero-shard}
-use Rattle.blocks_cache.specs.Places.{place, place-from}
-use Rattle.blocks_cache.specs.ShardArrays.{ident-at, ident-below, ident-place}
+use Rattle.block_records.proofs.arrays.ArrayLaws.{take-within, within-few}
+use Rattle.block_records.proofs.arrays.LoopLaws.{left, length-mapped}
+use Rattle.block_records.proofs.arrays.PlaceLaws.{place-found, place-gap, place-next, place-passed, place-start}
+use Rattle.block_records.specs.layout.Zeros.{zero-shard}
+use Rattle.block_records.specs.arrays.Place.{place, place-from}
+use Rattle.blocks_cache.specs.arrays.Shards.{ident-at, ident-below, ident-place}
 use Rattle.blocks_cache.proofs.shards.ident_place.Statement.{statement}
 use Rattle.blocks_cache.proofs.shards.ident_place.Tie as tie
 

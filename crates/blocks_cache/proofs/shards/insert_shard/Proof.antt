@@ -5,8 +5,8 @@ use Prim.Native.Nat.{ℕ, _≤_, _<_, _-_}
 use native.Mathlib.Omega.{arith}
 use borrow.Author.Needs.{needs}
 use lib.ListN.{length, length-set}
-use Rattle.block_records.proofs.LoopLaws.{length-mapped}
-use Rattle.block_records.proofs.ScanLaws.{Opened, inserted-length, open-end, open-next, open-start}
+use Rattle.block_records.proofs.arrays.LoopLaws.{length-mapped}
+use Rattle.block_records.proofs.arrays.ScanLaws.{Opened, inserted-length, open-end, open-next, open-start}
 use Rattle.blocks_cache.proofs.shards.insert_shard.Statement.{statement}
 use Rattle.blocks_cache.proofs.shards.insert_shard.Tie as tie
 

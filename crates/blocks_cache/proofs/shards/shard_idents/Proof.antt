@@ -5,18 +5,18 @@ use Prim.Native.Nat.{_≤_, _-_, _+_}
 use native.Mathlib.Omega.{arith}
 use borrow.Author.Needs.{needs}
 use lib.ListN.{length, take, drop}
-use Rattle.block_records.proofs.LoopLaws.{length-mapped}
-use Rattle.block_records.proofs.ArrayLaws.{each-end, each-next}
-use Rattle.block_records.proofs.LoopLaws.{padded-nil}
-use Rattle.block_records.specs.Lists.{each, padded}
-use Rattle.blocks_cache.proofs.ExtractionArrayLaws.{each-all}
-use Rattle.block_records.specs.Zeros.{zero-shard}
-use Rattle.blocks_cache.specs.ShardArrays.{held-shard}
+use Rattle.block_records.proofs.arrays.LoopLaws.{length-mapped}
+use Rattle.block_records.proofs.arrays.ArrayLaws.{each-end, each-next}
+use Rattle.block_records.proofs.arrays.LoopLaws.{padded-nil}
+use Rattle.block_records.specs.rules.Lists.{each, padded}
+use Rattle.blocks_cache.proofs.arrays.ExtractionLaws.{each-all}
+use Rattle.block_records.specs.layout.Zeros.{zero-shard}
+use Rattle.blocks_cache.specs.arrays.Shards.{shard-ident}
 use Rattle.blocks_cache.proofs.shards.shard_idents.Statement.{statement}
 use Rattle.blocks_cache.proofs.shards.shard_idents.Tie as tie
 
 abbrev Inv-loop : tie.InvT-loop
-Inv-loop shards out₀ i₀ out i = (i ≤ 8) × (out ≡ padded 8 zero-shard (take i (each held-shard (take 8 shards))))
+Inv-loop shards out₀ i₀ out i = (i ≤ 8) × (out ≡ padded 8 zero-shard (take i (each shard-ident (take 8 shards))))
 
 abbrev μ-loop : tie.MeasureT-loop
 μ-loop shards out₀ i₀ out i = 8 - i
@@ -53,7 +53,7 @@ loop-again c =
     let h = c .before .before .before in
     let s = h .before .before in
     let l = len s in
-    (search needs, each-next held-shard 8 zero-shard 8 (s .args .t1) (h .loop .out) (h .loop .i) (omega arith) (omega arith) (h .loop .inv .1) _ _ (refl) (omega arith))
+    (search needs, each-next shard-ident 8 zero-shard 8 (s .args .t1) (h .loop .out) (h .loop .i) (omega arith) (omega arith) (h .loop .inv .1) _ _ (refl) (omega arith))
 
 returns : tie.Need-returns Inv-loop μ-loop
 returns c =
@@ -61,7 +61,7 @@ returns c =
     let s = h .before .before in
     let l = len s in
     let t = c .loop-test .left in
-    each-end held-shard 8 zero-shard 8 (s .args .t1) (h .loop .out) (h .loop .i) (omega arith) (omega arith) (h .loop .inv .1) (omega arith) ∙ each-all held-shard 8 zero-shard (s .args .t1) l
+    each-end shard-ident 8 zero-shard 8 (s .args .t1) (h .loop .out) (h .loop .i) (omega arith) (omega arith) (h .loop .inv .1) (omega arith) ∙ each-all shard-ident 8 zero-shard (s .args .t1) l
 
 pub shard-idents-spec : {M : Type 1} → statement M
 shard-idents-spec =

@@ -6,13 +6,13 @@ use native.Mathlib.Omega.{arith}
 use borrow.Author.Needs.{needs}
 use borrow.Author.Tests.{not-true, not-false}
 use lib.ListN.{length, take}
-use Rattle.block_records.specs.Lists.{rising}
-use Rattle.block_records.proofs.BlockIdLaws.{shard-order}
-use Rattle.block_records.proofs.ListLaws.{by-order}
-use Rattle.block_records.proofs.LoopLaws.{left, left-start, length-mapped}
-use Rattle.block_records.proofs.ScanLaws.{neighbours, rise-next, rise-over, rise-passed, rise-stop, rising-neighbours}
+use Rattle.block_records.specs.rules.Lists.{rising}
+use Rattle.block_records.proofs.rules.BlockIdLaws.{shard-order}
+use Rattle.block_records.proofs.rules.ListLaws.{by-order}
+use Rattle.block_records.proofs.arrays.LoopLaws.{left, left-start, length-mapped}
+use Rattle.block_records.proofs.arrays.ScanLaws.{neighbours, rise-next, rise-over, rise-passed, rise-stop, rising-neighbours}
 use Rattle.blocks_cache.specs.declared.cache.ShardGroup.{ShardGroup}
-use Rattle.blocks_cache.specs.CacheLayout.{shard-group-before, zero-shard-group}
+use Rattle.blocks_cache.specs.layout.Cache.{shard-group-before, zero-shard-group}
 use Rattle.blocks_cache.proofs.soundness.shards_rise.Statement.{statement}
 use Rattle.blocks_cache.proofs.soundness.shards_rise.Tie as tie
 

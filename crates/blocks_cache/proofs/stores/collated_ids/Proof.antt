@@ -2,14 +2,14 @@
 -- Assumes nothing.
 use mathlib.Core.Path.{_∙_, ap}
 use Rattle.blocks_cache.specs.declared.master_data.AppliedRange.{AppliedRange}
-use Rattle.blocks_cache.specs.CacheStores.{with-range}
-use Rattle.blocks_cache.specs.MasterDataArrays.{put-id}
+use Rattle.blocks_cache.specs.arrays.Stores.{with-range}
+use Rattle.blocks_cache.specs.arrays.MasterData.{put-id}
 use borrow.Author.Needs.{needs}
 use Rattle.blocks_cache.proofs.stores.collated_ids.Statement.{statement}
 use Rattle.blocks_cache.proofs.stores.collated_ids.Tie as tie
 
-move-range-start-requires : tie.Need-move-range-start-requires
-move-range-start-requires c κs = search needs
+moved-start-requires : tie.Need-moved-start-requires
+moved-start-requires c κs = search needs
 
 put-id-requires : tie.Need-put-id-requires
 put-id-requires c κs = search needs
@@ -17,7 +17,7 @@ put-id-requires c κs = search needs
 returns : tie.Need-returns
 returns c =
     let s = c .before .before .before in
-    c .put-id .ensures ∙ ap (λ (r : AppliedRange). put-id (s .args .id) (with-range r (s .args .«data»))) (c .before .before .move-range-start .ensures)
+    c .put-id .ensures ∙ ap (λ (r : AppliedRange). put-id (s .args .id) (with-range r (s .args .«data»))) (c .before .before .moved-start .ensures)
 
 pub collated-ids-spec : {M : Type 1} → statement M
-collated-ids-spec = tie.close (tie.spec move-range-start-requires put-id-requires returns)
+collated-ids-spec = tie.close (tie.spec moved-start-requires put-id-requires returns)

@@ -4,11 +4,11 @@ use borrow.Author.Needs.{needs}
 use Rattle.blocks_cache.proofs.stores.range_end_moved.Statement.{statement}
 use Rattle.blocks_cache.proofs.stores.range_end_moved.Tie as tie
 
-move-range-end-requires : tie.Need-move-range-end-requires
-move-range-end-requires c κs = search needs
+moved-end-requires : tie.Need-moved-end-requires
+moved-end-requires c κs = search needs
 
 returns : tie.Need-returns
-returns c = rw (c .before .move-range-end .ensures)
+returns c = rw (c .before .moved-end .ensures)
 
 pub range-end-moved-spec : {M : Type 1} → statement M
-range-end-moved-spec = tie.close (tie.spec move-range-end-requires returns)
+range-end-moved-spec = tie.close (tie.spec moved-end-requires returns)

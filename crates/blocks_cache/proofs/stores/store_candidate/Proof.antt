@@ -1,8 +1,8 @@
 -- By the side of the candidate.
 -- Assumes nothing.
 use mathlib.Core.Path.{_∙_, ap, sym}
-use Rattle.block_records.specs.BlockIds.{is-masterchain}
-use Rattle.blocks_cache.proofs.CollatedStoreLaws.{candidate-master, candidate-shard}
+use Rattle.block_records.specs.rules.BlockId.{is-masterchain}
+use Rattle.blocks_cache.proofs.arrays.CollatedStoreLaws.{candidate-master, candidate-shard}
 use borrow.Author.Needs.{needs}
 use Rattle.blocks_cache.proofs.stores.store_candidate.Statement.{statement}
 use Rattle.blocks_cache.proofs.stores.store_candidate.Tie as tie

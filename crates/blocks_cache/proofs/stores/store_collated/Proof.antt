@@ -2,13 +2,13 @@
 -- Assumes nothing.
 use mathlib.Core.Path.{_∙_, ap, sym, subst}
 use borrow.Author.Tests.{not-false, not-true}
-use Rattle.block_records.specs.Questions.{candidate-questions}
-use Rattle.blocks_cache.specs.CacheLayout.{view}
-use Rattle.blocks_cache.specs.CacheStores.{store-outcome}
-use Rattle.blocks_cache.specs.Calls.{store-collated}
+use Rattle.block_records.specs.rules.Questions.{candidate-questions}
+use Rattle.blocks_cache.specs.layout.Cache.{view}
+use Rattle.blocks_cache.specs.arrays.Stores.{store-outcome}
+use Rattle.cache_rules.specs.Calls.{store-collated}
 use Rattle.blocks_cache.specs.declared.stores.BlockCacheStoreResult.{BlockCacheStoreResult}
-use Rattle.blocks_cache.proofs.CacheStoreLaws.{Zeroed, promised-refused, promised-rest, promised-unsound}
-use Rattle.blocks_cache.proofs.CollatedStoreLaws.{candidate-decided, candidate-rest, candidate-split, candidate-zeroed}
+use Rattle.blocks_cache.proofs.arrays.StoresLaws.{Zeroed, promised-refused, promised-rest, promised-unsound}
+use Rattle.blocks_cache.proofs.arrays.CollatedStoreLaws.{candidate-decided, candidate-rest, candidate-split, candidate-zeroed}
 use borrow.Author.Needs.{needs}
 use Rattle.blocks_cache.proofs.stores.store_collated.Statement.{statement}
 use Rattle.blocks_cache.proofs.stores.store_collated.Tie as tie

@@ -3,8 +3,8 @@
 use mathlib.Core.Path.{_∙_, refl}
 use denote.Enum.Declared.{tagOf}
 use Rattle.blocks_group.proofs.store.StoreAnswer.{the-type}
-use Rattle.blocks_cache.proofs.CacheStoreLaws.{unstored}
-use Rattle.blocks_cache.proofs.ReceivedStoreLaws.{master-receipt-is, master-receipt-put}
+use Rattle.blocks_cache.proofs.arrays.StoresLaws.{unstored}
+use Rattle.blocks_cache.proofs.arrays.ReceivedStoreLaws.{master-receipt-is, master-receipt-put}
 use borrow.Author.Needs.{needs}
 use Rattle.blocks_cache.proofs.stores.store_master_receipt.Statement.{statement}
 use Rattle.blocks_cache.proofs.stores.store_master_receipt.Tie as tie

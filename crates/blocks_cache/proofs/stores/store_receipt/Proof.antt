@@ -2,8 +2,8 @@
 -- Assumes nothing.
 use mathlib.Core.Path.{_∙_, ap, sym}
 use borrow.Author.Tests.{not-false, not-true}
-use Rattle.block_records.specs.BlockIds.{is-masterchain}
-use Rattle.blocks_cache.proofs.ReceivedStoreLaws.{receipt-before, receipt-master, receipt-other, receipt-shard}
+use Rattle.block_records.specs.rules.BlockId.{is-masterchain}
+use Rattle.blocks_cache.proofs.arrays.ReceivedStoreLaws.{receipt-before, receipt-master, receipt-other, receipt-shard}
 use borrow.Author.Needs.{needs}
 use Rattle.blocks_cache.proofs.stores.store_receipt.Statement.{statement}
 use Rattle.blocks_cache.proofs.stores.store_receipt.Tie as tie

@@ -4,8 +4,8 @@ use mathlib.Core.Path.{_∙_, refl, sym}
 use borrow.Author.Tests.{not-false, not-true}
 use denote.Enum.Declared.{tagOf}
 use Rattle.blocks_group.proofs.store.StoreAnswer.{the-type}
-use Rattle.blocks_cache.proofs.CacheStoreLaws.{unstored}
-use Rattle.blocks_cache.proofs.CollatedStoreLaws.{shard-candidate-full, shard-candidate-is, shard-candidate-kept, shard-candidate-put}
+use Rattle.blocks_cache.proofs.arrays.StoresLaws.{unstored}
+use Rattle.blocks_cache.proofs.arrays.CollatedStoreLaws.{shard-candidate-full, shard-candidate-is, shard-candidate-kept, shard-candidate-put}
 use borrow.Author.Needs.{needs}
 use Rattle.blocks_cache.proofs.stores.store_shard_candidate.Statement.{statement}
 use Rattle.blocks_cache.proofs.stores.store_shard_candidate.Tie as tie

@@ -4,8 +4,8 @@ use mathlib.Core.Path.{_∙_, refl}
 use borrow.Author.Tests.{not-false, not-true}
 use denote.Enum.Declared.{tagOf}
 use Rattle.blocks_group.proofs.store.StoreAnswer.{the-type}
-use Rattle.blocks_cache.proofs.CacheStoreLaws.{unstored}
-use Rattle.blocks_cache.proofs.ReceivedStoreLaws.{shard-receipt-full, shard-receipt-is, shard-receipt-put}
+use Rattle.blocks_cache.proofs.arrays.StoresLaws.{unstored}
+use Rattle.blocks_cache.proofs.arrays.ReceivedStoreLaws.{shard-receipt-full, shard-receipt-is, shard-receipt-put}
 use borrow.Author.Needs.{needs}
 use Rattle.blocks_cache.proofs.stores.store_shard_receipt.Statement.{statement}
 use Rattle.blocks_cache.proofs.stores.store_shard_receipt.Tie as tie

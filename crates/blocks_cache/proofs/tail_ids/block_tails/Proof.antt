@@ -2,7 +2,7 @@
 -- Assumes nothing.
 use mathlib.Core.Path.{refl}
 use borrow.Author.Needs.{needs}
-use Rattle.blocks_cache.proofs.TailWalkLaws.{tails-walked, tops-laid}
+use Rattle.blocks_cache.proofs.arrays.TailWalkLaws.{tails-walked, tops-laid}
 use Rattle.blocks_cache.proofs.tail_ids.block_tails.Statement.{statement}
 use Rattle.blocks_cache.proofs.tail_ids.block_tails.Tie as tie
 

@@ -1,6 +1,6 @@
 -- Assumes nothing.
 use borrow.Author.Needs.{needs}
-use Rattle.blocks_cache.specs.TailArrays.{fingerprint}
+use Rattle.blocks_cache.specs.arrays.TailIds.{fingerprint}
 use Rattle.blocks_cache.proofs.tail_ids.fingerprint.Statement.{statement}
 use Rattle.blocks_cache.proofs.tail_ids.fingerprint.Tie as tie
 

@@ -8,8 +8,8 @@ use lib.Dec.{eqb}
 use lib.ListN.{getD, length, take}
 use lib.Seq.{take-all}
 use borrow.Author.Needs.{needs}
-use Rattle.blocks_cache.specs.TailArrays.{has-number}
-use Rattle.block_records.proofs.ScanLaws.{any-more}
+use Rattle.blocks_cache.specs.arrays.TailIds.{has-number}
+use Rattle.block_records.proofs.arrays.ScanLaws.{any-more}
 use Rattle.blocks_cache.proofs.tail_ids.has_number.Statement.{statement}
 use Rattle.blocks_cache.proofs.tail_ids.has_number.Tie as tie
 

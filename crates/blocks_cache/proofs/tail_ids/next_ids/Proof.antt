@@ -2,8 +2,8 @@
 -- Assumes nothing.
 use mathlib.Core.Path.{_≡_}
 use lib.ListN.{length}
-use Rattle.block_records.proofs.LoopLaws.{length-mapped}
-use Rattle.blocks_cache.proofs.TailArrayLaws.{all-new}
+use Rattle.block_records.proofs.arrays.LoopLaws.{length-mapped}
+use Rattle.blocks_cache.proofs.arrays.TailRowLaws.{all-new}
 use borrow.Author.Needs.{needs}
 use Rattle.blocks_cache.proofs.tail_ids.next_ids.Statement.{statement}
 use Rattle.blocks_cache.proofs.tail_ids.next_ids.Tie as tie

@@ -6,13 +6,13 @@ use Prim.Native.Nat.{_-_, ℕ}
 use native.Mathlib.Omega.{arith}
 use borrow.Author.Needs.{needs}
 use lib.ListN.{length, take}
-use Rattle.block_records.proofs.ArrayLaws.{Splicing, splice-after, splice-before, splice-end, splice-here, splice-start, take-within}
-use Rattle.block_records.proofs.LoopLaws.{length-mapped}
-use Rattle.block_records.specs.Arrays.{Splices, spliced}
-use Rattle.block_records.specs.Lists.{padded}
+use Rattle.block_records.proofs.arrays.ArrayLaws.{Splicing, splice-after, splice-before, splice-end, splice-here, splice-start, take-within}
+use Rattle.block_records.proofs.arrays.LoopLaws.{length-mapped}
+use Rattle.block_records.specs.arrays.Arrays.{Splices, spliced}
+use Rattle.block_records.specs.rules.Lists.{padded}
 use lib.Dec.{ltb}
-use Rattle.block_records.specs.Lists.{pick}
-use Rattle.blocks_cache.specs.TailArrays.{zero-tail}
+use Rattle.block_records.specs.rules.Lists.{pick}
+use Rattle.blocks_cache.specs.arrays.TailIds.{zero-tail}
 use Rattle.blocks_cache.proofs.tail_ids.put_row_at.Statement.{statement}
 use Rattle.blocks_cache.proofs.tail_ids.put_row_at.Tie as tie
 

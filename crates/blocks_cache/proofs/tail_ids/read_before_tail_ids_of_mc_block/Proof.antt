@@ -3,7 +3,7 @@
 use mathlib.Core.Path.{_∙_, sym}
 use borrow.Author.Needs.{needs}
 use borrow.Author.Tests.{not-false, not-true}
-use Rattle.blocks_cache.proofs.TailReadLaws.{tails-are, tails-refuses, tails-unsound}
+use Rattle.blocks_cache.proofs.arrays.TailIdsLaws.{tails-are, tails-refuses, tails-unsound}
 use Rattle.blocks_cache.proofs.tail_ids.read_before_tail_ids_of_mc_block.Statement.{statement}
 use Rattle.blocks_cache.proofs.tail_ids.read_before_tail_ids_of_mc_block.Tie as tie
 

@@ -1,7 +1,7 @@
 -- The master that is found, and its rows.
 -- Assumes nothing.
 use borrow.Author.Needs.{needs}
-use Rattle.blocks_cache.proofs.TailWalkLaws.{read-early, read-found, read-vacant}
+use Rattle.blocks_cache.proofs.arrays.TailWalkLaws.{read-early, read-found, read-vacant}
 use Rattle.blocks_cache.proofs.tail_ids.read_tails.Statement.{statement}
 use Rattle.blocks_cache.proofs.tail_ids.read_tails.Tie as tie
 

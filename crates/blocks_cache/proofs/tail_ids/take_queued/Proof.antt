@@ -9,14 +9,14 @@ use borrow.Author.Needs.{needs}
 use borrow.Author.Tests.{eq-eqb, ne-eqb}
 use lib.ListN.{length, length-set}
 use lib.Seq.{length-take-le}
-use Rattle.block_records.proofs.LoopLaws.{length-mapped}
+use Rattle.block_records.proofs.arrays.LoopLaws.{length-mapped}
 use Rattle.block_records.specs.declared.entry.BlockCacheEntry.{BlockCacheEntry}
 use Rattle.blocks_cache.specs.declared.cache.ShardGroup.{ShardGroup}
-use Rattle.blocks_cache.specs.Lookups.{cached-block}
-use Rattle.blocks_cache.specs.TailArrays.{cached-row, cached-step, hold-row, step-of}
-use Rattle.blocks_cache.proofs.BlockPlaceLaws.{cached-at-place, cached-entry-within, cached-group-within, not-cached}
-use Rattle.blocks_cache.proofs.TailArrayLaws.{hold-keeps, hold-replaces, row-listed, step-cached, step-foreign, step-missed, step-skipped}
-use Rattle.blocks_cache.proofs.TailWalkLaws.{QueueTaken, Waits, queue-end, queue-next, queue-skip, queue-start, waits-few, waits-fingerprints, waits-length, waits-more}
+use Rattle.blocks_cache.specs.arrays.Lookup.{cached-block}
+use Rattle.blocks_cache.specs.arrays.TailIds.{cached-row, cached-step, hold-row, step-of}
+use Rattle.blocks_cache.proofs.arrays.LookupLaws.{cached-at-place, cached-entry-within, cached-group-within, not-cached}
+use Rattle.blocks_cache.proofs.arrays.TailRowLaws.{hold-keeps, hold-replaces, row-listed, step-cached, step-foreign, step-missed, step-skipped}
+use Rattle.blocks_cache.proofs.arrays.TailWalkLaws.{QueueTaken, Waits, queue-end, queue-next, queue-skip, queue-start, waits-few, waits-fingerprints, waits-length, waits-more}
 use Rattle.blocks_cache.proofs.tail_ids.take_queued.Statement.{statement}
 use Rattle.blocks_cache.proofs.tail_ids.take_queued.Tie as tie
 
@@ -52,10 +52,10 @@ abbrev at-loop : tie.After-known-told Inv-loop μ-loop → tie.At-loop Inv-loop 
 at-loop k = k .before .before .before .before .before .before .before .before
 
 group-place : (k : tie.After-known-told Inv-loop μ-loop) → k .before .at .given .0 .0 < 8
-group-place k = let a = at-loop k in let s = start a in cached-group-within (s .args .t1) (s .pre .0) _ _ _ (a .before .before .before .before .before .shard-idents .ensures) (a .before .before .before .before .shard-seqnos .ensures) _ _ (sym (k .before .before .before .lookup .ensures) ∙ k .before .at .given .1)
+group-place k = let a = at-loop k in let s = start a in cached-group-within (s .args .t1) (s .pre .0) _ _ _ (a .before .before .before .before .before .shard-idents .ensures) (a .before .before .before .before .shard-seqnos .ensures) _ _ (sym (k .before .before .before .block-place .ensures) ∙ k .before .at .given .1)
 
 entry-place : (k : tie.After-known-told Inv-loop μ-loop) → k .before .at .given .0 .1 .0 < 16
-entry-place k = let a = at-loop k in let s = start a in cached-entry-within (s .args .t1) (s .pre .0) _ _ _ (a .before .before .before .before .before .shard-idents .ensures) (a .before .before .before .before .shard-seqnos .ensures) _ _ (sym (k .before .before .before .lookup .ensures) ∙ k .before .at .given .1)
+entry-place k = let a = at-loop k in let s = start a in cached-entry-within (s .args .t1) (s .pre .0) _ _ _ (a .before .before .before .before .before .shard-idents .ensures) (a .before .before .before .before .shard-seqnos .ensures) _ _ (sym (k .before .before .before .block-place .ensures) ∙ k .before .at .given .1)
 
 shard-idents-requires : tie.Need-shard-idents-requires Inv-loop μ-loop
 shard-idents-requires c κs = search needs
@@ -83,8 +83,8 @@ loop-again c =
     let z = step-skipped (c .before .before .before .before .before .before .before .before .before .before .before .args .t1) (c .before .before .before .before .before .before .before .before .before .before .before .args .mc-seqno) false _ (c .if1 .taken) in
     (rows (c .before .before .before .before), queue-skip (c .before .before .before .before .before .before .before .before .before .before .before .args .t1) (c .before .before .before .before .before .before .before .before .before .before .before .args .mc-seqno) (c .before .before .before .before .before .before .before .before .before .before .before .args .walk) (c .before .before .before .before .loop .j) (c .before .before .before .before .loop .tails) (c .before .before .before .before .loop .ids) (c .before .before .before .before .loop .fingerprints) (c .before .before .before .before .loop .count) (c .before .before .before .before .loop .inv .1) _ (c .before .before .before .loop-test .taken) z)
 
-lookup-requires : tie.Need-lookup-requires Inv-loop μ-loop
-lookup-requires c κs = search needs
+block-place-requires : tie.Need-block-place-requires Inv-loop μ-loop
+block-place-requires c κs = search needs
 
 enum-known-at : tie.Need-enum-known-at Inv-loop μ-loop
 enum-known-at c = search needs
@@ -99,7 +99,7 @@ loop-again-2 : tie.Need-loop-again-2 Inv-loop μ-loop
 loop-again-2 c = (
   rows (c .before .before .before .before .before .before .before),
   queue-skip (c .before .before .before .before .before .before .before .before .before .before .before .before .before .before .args .t1) (c .before .before .before .before .before .before .before .before .before .before .before .before .before .before .args .mc-seqno) (c .before .before .before .before .before .before .before .before .before .before .before .before .before .before .args .walk) (c .before .before .before .before .before .before .before .loop .j) (c .before .before .before .before .before .before .before .loop .tails) (c .before .before .before .before .before .before .before .loop .ids) (c .before .before .before .before .before .before .before .loop .fingerprints) (c .before .before .before .before .before .before .before .loop .count) (c .before .before .before .before .before .before .before .loop .inv .1) _ (c .before .before .before .before .before .before .loop-test .taken)
-      (step-missed (c .before .before .before .before .before .before .before .before .before .before .before .before .before .before .args .t1) (c .before .before .before .before .before .before .before .before .before .before .before .before .before .before .args .mc-seqno) false _ (c .before .before .before .if1 .left) (not-cached (c .before .before .before .before .before .before .before .before .before .before .before .before .before .before .args .t1) (c .before .before .before .before .before .before .before .before .before .before .before .before .before .before .pre .0) _ _ _ (c .before .before .before .before .before .before .before .before .before .before .before .before .shard-idents .ensures) (c .before .before .before .before .before .before .before .before .before .before .before .shard-seqnos .ensures) (sym (c .before .before .lookup .ensures) ∙ c .enum-told .given .1)) refl),
+      (step-missed (c .before .before .before .before .before .before .before .before .before .before .before .before .before .before .args .t1) (c .before .before .before .before .before .before .before .before .before .before .before .before .before .before .args .mc-seqno) false _ (c .before .before .before .if1 .left) (not-cached (c .before .before .before .before .before .before .before .before .before .before .before .before .before .before .args .t1) (c .before .before .before .before .before .before .before .before .before .before .before .before .before .before .pre .0) _ _ _ (c .before .before .before .before .before .before .before .before .before .before .before .before .shard-idents .ensures) (c .before .before .before .before .before .before .before .before .before .before .before .shard-seqnos .ensures) (sym (c .before .before .block-place .ensures) ∙ c .enum-told .given .1)) refl),
 )
 
 mul-held : tie.Need-mul-held Inv-loop μ-loop
@@ -121,7 +121,7 @@ loop-again-3 : tie.Need-loop-again-3 Inv-loop μ-loop
 loop-again-3 c = (
   rows (c .before .before .before .before .before .before .before .before .before .before .before .before .before),
   queue-skip (c .before .before .before .before .before .before .before .before .before .before .before .before .before .before .before .before .before .before .before .before .args .t1) (c .before .before .before .before .before .before .before .before .before .before .before .before .before .before .before .before .before .before .before .before .args .mc-seqno) (c .before .before .before .before .before .before .before .before .before .before .before .before .before .before .before .before .before .before .before .before .args .walk) (c .before .before .before .before .before .before .before .before .before .before .before .before .before .loop .j) (c .before .before .before .before .before .before .before .before .before .before .before .before .before .loop .tails) (c .before .before .before .before .before .before .before .before .before .before .before .before .before .loop .ids) (c .before .before .before .before .before .before .before .before .before .before .before .before .before .loop .fingerprints) (c .before .before .before .before .before .before .before .before .before .before .before .before .before .loop .count) (c .before .before .before .before .before .before .before .before .before .before .before .before .before .loop .inv .1) _ (c .before .before .before .before .before .before .before .before .before .before .before .before .loop-test .taken)
-      (step-foreign (c .before .before .before .before .before .before .before .before .before .before .before .before .before .before .before .before .before .before .before .before .args .t1) (c .before .before .before .before .before .before .before .before .before .before .before .before .before .before .before .before .before .before .before .before .args .mc-seqno) false _ (c .before .before .before .before .before .before .before .before .before .if1 .left) _ (cached-at-place (c .before .before .before .before .before .before .before .before .before .before .before .before .before .before .before .before .before .before .before .before .args .t1) (c .before .before .before .before .before .before .before .before .before .before .before .before .before .before .before .before .before .before .before .before .pre .0) _ _ _ (c .before .before .before .before .before .before .before .before .before .before .before .before .before .before .before .before .before .before .shard-idents .ensures) (c .before .before .before .before .before .before .before .before .before .before .before .before .before .before .before .before .before .shard-seqnos .ensures) _ _ (sym (c .before .before .before .before .before .before .before .before .lookup .ensures) ∙ c .before .before .before .before .before .before .at .given .1) _ _) (ne-eqb _ _ (c .if2 .taken))),
+      (step-foreign (c .before .before .before .before .before .before .before .before .before .before .before .before .before .before .before .before .before .before .before .before .args .t1) (c .before .before .before .before .before .before .before .before .before .before .before .before .before .before .before .before .before .before .before .before .args .mc-seqno) false _ (c .before .before .before .before .before .before .before .before .before .if1 .left) _ (cached-at-place (c .before .before .before .before .before .before .before .before .before .before .before .before .before .before .before .before .before .before .before .before .args .t1) (c .before .before .before .before .before .before .before .before .before .before .before .before .before .before .before .before .before .before .before .before .pre .0) _ _ _ (c .before .before .before .before .before .before .before .before .before .before .before .before .before .before .before .before .before .before .shard-idents .ensures) (c .before .before .before .before .before .before .before .before .before .before .before .before .before .before .before .before .before .shard-seqnos .ensures) _ _ (sym (c .before .before .before .before .before .before .before .before .block-place .ensures) ∙ c .before .before .before .before .before .before .at .given .1) _ _) (ne-eqb _ _ (c .if2 .taken))),
 )
 
 array-share-prefix-fingerprints : tie.Need-array-share-prefix-fingerprints Inv-loop μ-loop
@@ -184,7 +184,7 @@ array-write-fingerprints-2 c = omega (arith, few (c .before .before .before .bef
 add-count : tie.Need-add-count Inv-loop μ-loop
 add-count c =
     let a = c .before .before .before .before .before .before .before .before .before .before .before .before .before .before .before .before .before .before .before .before .before in
-    let w = waits-more (c .before .before .before .before .before .before .before .before .before .before .before .before .before .before .before .before .before .before .before .before .before .before .before .before .before .before .before .before .args .t1) (c .before .before .before .before .before .before .before .before .before .before .before .before .before .before .before .before .before .before .before .before .before .before .before .before .before .before .before .before .args .mc-seqno) false (a .loop .tails) (a .loop .ids) (a .loop .fingerprints) (a .loop .count) (a .loop .inv .1 .waits) _ _ (step-cached (c .before .before .before .before .before .before .before .before .before .before .before .before .before .before .before .before .before .before .before .before .before .before .before .before .before .before .before .before .args .t1) (c .before .before .before .before .before .before .before .before .before .before .before .before .before .before .before .before .before .before .before .before .before .before .before .before .before .before .before .before .args .mc-seqno) false _ (c .before .before .before .before .before .before .before .before .before .before .before .before .before .before .before .before .before .if1 .left) _ (cached-at-place (c .before .before .before .before .before .before .before .before .before .before .before .before .before .before .before .before .before .before .before .before .before .before .before .before .before .before .before .before .args .t1) (c .before .before .before .before .before .before .before .before .before .before .before .before .before .before .before .before .before .before .before .before .before .before .before .before .before .before .before .before .pre .0) _ _ _ (c .before .before .before .before .before .before .before .before .before .before .before .before .before .before .before .before .before .before .before .before .before .before .before .before .before .before .shard-idents .ensures) (c .before .before .before .before .before .before .before .before .before .before .before .before .before .before .before .before .before .before .before .before .before .before .before .before .before .shard-seqnos .ensures) _ _ (sym (c .before .before .before .before .before .before .before .before .before .before .before .before .before .before .before .before .lookup .ensures) ∙ c .before .before .before .before .before .before .before .before .before .before .before .before .before .before .at .given .1) _ _) (eq-eqb _ _ (c .before .before .before .before .before .before .before .before .if2 .left))) _ (c .before .before .before .before .before .before .next-ids .ensures) (two (c .before .before .before .before .before .before)) _ _ _ _ (c .before .before .fingerprint .ensures) (c .fingerprint2 .ensures) in
+    let w = waits-more (c .before .before .before .before .before .before .before .before .before .before .before .before .before .before .before .before .before .before .before .before .before .before .before .before .before .before .before .before .args .t1) (c .before .before .before .before .before .before .before .before .before .before .before .before .before .before .before .before .before .before .before .before .before .before .before .before .before .before .before .before .args .mc-seqno) false (a .loop .tails) (a .loop .ids) (a .loop .fingerprints) (a .loop .count) (a .loop .inv .1 .waits) _ _ (step-cached (c .before .before .before .before .before .before .before .before .before .before .before .before .before .before .before .before .before .before .before .before .before .before .before .before .before .before .before .before .args .t1) (c .before .before .before .before .before .before .before .before .before .before .before .before .before .before .before .before .before .before .before .before .before .before .before .before .before .before .before .before .args .mc-seqno) false _ (c .before .before .before .before .before .before .before .before .before .before .before .before .before .before .before .before .before .if1 .left) _ (cached-at-place (c .before .before .before .before .before .before .before .before .before .before .before .before .before .before .before .before .before .before .before .before .before .before .before .before .before .before .before .before .args .t1) (c .before .before .before .before .before .before .before .before .before .before .before .before .before .before .before .before .before .before .before .before .before .before .before .before .before .before .before .before .pre .0) _ _ _ (c .before .before .before .before .before .before .before .before .before .before .before .before .before .before .before .before .before .before .before .before .before .before .before .before .before .before .shard-idents .ensures) (c .before .before .before .before .before .before .before .before .before .before .before .before .before .before .before .before .before .before .before .before .before .before .before .before .before .shard-seqnos .ensures) _ _ (sym (c .before .before .before .before .before .before .before .before .before .before .before .before .before .before .before .before .block-place .ensures) ∙ c .before .before .before .before .before .before .before .before .before .before .before .before .before .before .at .given .1) _ _) (eq-eqb _ _ (c .before .before .before .before .before .before .before .before .if2 .left))) _ (c .before .before .before .before .before .before .next-ids .ensures) (two (c .before .before .before .before .before .before)) _ _ _ _ (c .before .before .fingerprint .ensures) (c .fingerprint2 .ensures) in
     omega (arith, waits-few _ _ _ w)
 
 cached-row-requires : tie.Need-cached-row-requires Inv-loop μ-loop
@@ -208,7 +208,7 @@ loop-less-4 c = omega (arith, few (c .before .before .before .before .before .be
 loop-again-4 : tie.Need-loop-again-4 Inv-loop μ-loop
 loop-again-4 c = (
   held c,
-  queue-next (c .before .before .before .before .before .before .before .before .before .before .before .before .before .before .before .before .before .before .before .before .before .before .before .before .before .before .before .before .before .before .before .before .before .args .t1) (c .before .before .before .before .before .before .before .before .before .before .before .before .before .before .before .before .before .before .before .before .before .before .before .before .before .before .before .before .before .before .before .before .before .args .mc-seqno) (c .before .before .before .before .before .before .before .before .before .before .before .before .before .before .before .before .before .before .before .before .before .before .before .before .before .before .before .before .before .before .before .before .before .args .walk) (c .before .before .before .before .before .before .before .before .before .before .before .before .before .before .before .before .before .before .before .before .before .before .before .before .before .before .loop .j) (c .before .before .before .before .before .before .before .before .before .before .before .before .before .before .before .before .before .before .before .before .before .before .before .before .before .before .loop .tails) (c .before .before .before .before .before .before .before .before .before .before .before .before .before .before .before .before .before .before .before .before .before .before .before .before .before .before .loop .ids) (c .before .before .before .before .before .before .before .before .before .before .before .before .before .before .before .before .before .before .before .before .before .before .before .before .before .before .loop .fingerprints) (c .before .before .before .before .before .before .before .before .before .before .before .before .before .before .before .before .before .before .before .before .before .before .before .before .before .before .loop .count) (c .before .before .before .before .before .before .before .before .before .before .before .before .before .before .before .before .before .before .before .before .before .before .before .before .before .before .loop .inv .1) _ (c .before .before .before .before .before .before .before .before .before .before .before .before .before .before .before .before .before .before .before .before .before .before .before .before .before .loop-test .taken) _ (step-cached (c .before .before .before .before .before .before .before .before .before .before .before .before .before .before .before .before .before .before .before .before .before .before .before .before .before .before .before .before .before .before .before .before .before .args .t1) (c .before .before .before .before .before .before .before .before .before .before .before .before .before .before .before .before .before .before .before .before .before .before .before .before .before .before .before .before .before .before .before .before .before .args .mc-seqno) false _ (c .before .before .before .before .before .before .before .before .before .before .before .before .before .before .before .before .before .before .before .before .before .before .if1 .left) _ (cached-at-place (c .before .before .before .before .before .before .before .before .before .before .before .before .before .before .before .before .before .before .before .before .before .before .before .before .before .before .before .before .before .before .before .before .before .args .t1) (c .before .before .before .before .before .before .before .before .before .before .before .before .before .before .before .before .before .before .before .before .before .before .before .before .before .before .before .before .before .before .before .before .before .pre .0) _ _ _ (c .before .before .before .before .before .before .before .before .before .before .before .before .before .before .before .before .before .before .before .before .before .before .before .before .before .before .before .before .before .before .before .shard-idents .ensures) (c .before .before .before .before .before .before .before .before .before .before .before .before .before .before .before .before .before .before .before .before .before .before .before .before .before .before .before .before .before .before .shard-seqnos .ensures) _ _ (sym (c .before .before .before .before .before .before .before .before .before .before .before .before .before .before .before .before .before .before .before .before .before .lookup .ensures) ∙ c .before .before .before .before .before .before .before .before .before .before .before .before .before .before .before .before .before .before .before .at .given .1) _ _) (eq-eqb _ _ (c .before .before .before .before .before .before .before .before .before .before .before .before .before .if2 .left))) _ (c .hold-row .ensures ∙ ap (λ r. hold-row r (c .before .before .before .before .before .before .before .before .before .before .before .before .before .before .before .before .before .before .before .before .before .before .before .before .before .before .loop .tails)) (c .before .before .before .before .cached-row .ensures)) _ (c .before .before .before .before .before .before .before .before .before .before .before .next-ids .ensures) (two (c .before .before .before .before .before .before .before .before .before .before .before)) _ _ _ _ (c .before .before .before .before .before .before .before .fingerprint .ensures) (c .before .before .before .before .before .fingerprint2 .ensures),
+  queue-next (c .before .before .before .before .before .before .before .before .before .before .before .before .before .before .before .before .before .before .before .before .before .before .before .before .before .before .before .before .before .before .before .before .before .args .t1) (c .before .before .before .before .before .before .before .before .before .before .before .before .before .before .before .before .before .before .before .before .before .before .before .before .before .before .before .before .before .before .before .before .before .args .mc-seqno) (c .before .before .before .before .before .before .before .before .before .before .before .before .before .before .before .before .before .before .before .before .before .before .before .before .before .before .before .before .before .before .before .before .before .args .walk) (c .before .before .before .before .before .before .before .before .before .before .before .before .before .before .before .before .before .before .before .before .before .before .before .before .before .before .loop .j) (c .before .before .before .before .before .before .before .before .before .before .before .before .before .before .before .before .before .before .before .before .before .before .before .before .before .before .loop .tails) (c .before .before .before .before .before .before .before .before .before .before .before .before .before .before .before .before .before .before .before .before .before .before .before .before .before .before .loop .ids) (c .before .before .before .before .before .before .before .before .before .before .before .before .before .before .before .before .before .before .before .before .before .before .before .before .before .before .loop .fingerprints) (c .before .before .before .before .before .before .before .before .before .before .before .before .before .before .before .before .before .before .before .before .before .before .before .before .before .before .loop .count) (c .before .before .before .before .before .before .before .before .before .before .before .before .before .before .before .before .before .before .before .before .before .before .before .before .before .before .loop .inv .1) _ (c .before .before .before .before .before .before .before .before .before .before .before .before .before .before .before .before .before .before .before .before .before .before .before .before .before .loop-test .taken) _ (step-cached (c .before .before .before .before .before .before .before .before .before .before .before .before .before .before .before .before .before .before .before .before .before .before .before .before .before .before .before .before .before .before .before .before .before .args .t1) (c .before .before .before .before .before .before .before .before .before .before .before .before .before .before .before .before .before .before .before .before .before .before .before .before .before .before .before .before .before .before .before .before .before .args .mc-seqno) false _ (c .before .before .before .before .before .before .before .before .before .before .before .before .before .before .before .before .before .before .before .before .before .before .if1 .left) _ (cached-at-place (c .before .before .before .before .before .before .before .before .before .before .before .before .before .before .before .before .before .before .before .before .before .before .before .before .before .before .before .before .before .before .before .before .before .args .t1) (c .before .before .before .before .before .before .before .before .before .before .before .before .before .before .before .before .before .before .before .before .before .before .before .before .before .before .before .before .before .before .before .before .before .pre .0) _ _ _ (c .before .before .before .before .before .before .before .before .before .before .before .before .before .before .before .before .before .before .before .before .before .before .before .before .before .before .before .before .before .before .before .shard-idents .ensures) (c .before .before .before .before .before .before .before .before .before .before .before .before .before .before .before .before .before .before .before .before .before .before .before .before .before .before .before .before .before .before .shard-seqnos .ensures) _ _ (sym (c .before .before .before .before .before .before .before .before .before .before .before .before .before .before .before .before .before .before .before .before .before .block-place .ensures) ∙ c .before .before .before .before .before .before .before .before .before .before .before .before .before .before .before .before .before .before .before .at .given .1) _ _) (eq-eqb _ _ (c .before .before .before .before .before .before .before .before .before .before .before .before .before .if2 .left))) _ (c .hold-row .ensures ∙ ap (λ r. hold-row r (c .before .before .before .before .before .before .before .before .before .before .before .before .before .before .before .before .before .before .before .before .before .before .before .before .before .before .loop .tails)) (c .before .before .before .before .cached-row .ensures)) _ (c .before .before .before .before .before .before .before .before .before .before .before .next-ids .ensures) (two (c .before .before .before .before .before .before .before .before .before .before .before)) _ _ _ _ (c .before .before .before .before .before .before .before .fingerprint .ensures) (c .before .before .before .before .before .fingerprint2 .ensures),
 )
 
 mul-old : tie.Need-mul-old Inv-loop μ-loop
@@ -217,8 +217,8 @@ mul-old c = omega (arith, row-listed (c .before .before .before .before .before 
 element-copy-out-old : tie.Need-element-copy-out-old Inv-loop μ-loop
 element-copy-out-old c = omega (arith, row-listed (c .before .before .before .before .before .before .before .before .before .before .before .before .before .before .before .before .before .before .before .before .before .before .before .before .before .before .loop .tails) (rows (c .before .before .before .before .before .before .before .before .before .before .before .before .before .before .before .before .before .before .before .before .before .before .before .before .before .before)) (c .before .before .before .before .cached-row .result) _ (sym (c .before .before .before .row-place .ensures) ∙ c .before .at2 .given .1))
 
-replaces-row-requires : tie.Need-replaces-row-requires Inv-loop μ-loop
-replaces-row-requires c κs = search needs
+replaces-last-requires : tie.Need-replaces-last-requires Inv-loop μ-loop
+replaces-last-requires c κs = search needs
 
 mul-row : tie.Need-mul-row Inv-loop μ-loop
 mul-row c = omega (arith, row-listed (c .before .before .before .before .before .before .before .before .before .before .before .before .before .before .before .before .before .before .before .before .before .before .before .before .before .before .before .before .before .loop .tails) (rows (c .before .before .before .before .before .before .before .before .before .before .before .before .before .before .before .before .before .before .before .before .before .before .before .before .before .before .before .before .before)) (c .before .before .before .before .before .before .before .cached-row .result) _ (sym (c .before .before .before .before .before .before .row-place .ensures) ∙ c .before .before .before .before .at2 .given .1))
@@ -232,7 +232,7 @@ loop-less-5 c = omega (arith, few (c .before .before .before .before .before .be
 loop-again-5 : tie.Need-loop-again-5 Inv-loop μ-loop
 loop-again-5 c = (
   length-set (c .before .before .before .before .before .before .before .before .before .before .before .before .before .before .before .before .before .before .before .before .before .before .before .before .before .before .before .before .before .loop .tails .rows) _ _ ∙ rows (c .before .before .before .before .before .before .before .before .before .before .before .before .before .before .before .before .before .before .before .before .before .before .before .before .before .before .before .before .before),
-  queue-next (c .before .before .before .before .before .before .before .before .before .before .before .before .before .before .before .before .before .before .before .before .before .before .before .before .before .before .before .before .before .before .before .before .before .before .before .before .args .t1) (c .before .before .before .before .before .before .before .before .before .before .before .before .before .before .before .before .before .before .before .before .before .before .before .before .before .before .before .before .before .before .before .before .before .before .before .before .args .mc-seqno) (c .before .before .before .before .before .before .before .before .before .before .before .before .before .before .before .before .before .before .before .before .before .before .before .before .before .before .before .before .before .before .before .before .before .before .before .before .args .walk) (c .before .before .before .before .before .before .before .before .before .before .before .before .before .before .before .before .before .before .before .before .before .before .before .before .before .before .before .before .before .loop .j) (c .before .before .before .before .before .before .before .before .before .before .before .before .before .before .before .before .before .before .before .before .before .before .before .before .before .before .before .before .before .loop .tails) (c .before .before .before .before .before .before .before .before .before .before .before .before .before .before .before .before .before .before .before .before .before .before .before .before .before .before .before .before .before .loop .ids) (c .before .before .before .before .before .before .before .before .before .before .before .before .before .before .before .before .before .before .before .before .before .before .before .before .before .before .before .before .before .loop .fingerprints) (c .before .before .before .before .before .before .before .before .before .before .before .before .before .before .before .before .before .before .before .before .before .before .before .before .before .before .before .before .before .loop .count) (c .before .before .before .before .before .before .before .before .before .before .before .before .before .before .before .before .before .before .before .before .before .before .before .before .before .before .before .before .before .loop .inv .1) _ (c .before .before .before .before .before .before .before .before .before .before .before .before .before .before .before .before .before .before .before .before .before .before .before .before .before .before .before .before .loop-test .taken) _ (step-cached (c .before .before .before .before .before .before .before .before .before .before .before .before .before .before .before .before .before .before .before .before .before .before .before .before .before .before .before .before .before .before .before .before .before .before .before .before .args .t1) (c .before .before .before .before .before .before .before .before .before .before .before .before .before .before .before .before .before .before .before .before .before .before .before .before .before .before .before .before .before .before .before .before .before .before .before .before .args .mc-seqno) false _ (c .before .before .before .before .before .before .before .before .before .before .before .before .before .before .before .before .before .before .before .before .before .before .before .before .before .if1 .left) _ (cached-at-place (c .before .before .before .before .before .before .before .before .before .before .before .before .before .before .before .before .before .before .before .before .before .before .before .before .before .before .before .before .before .before .before .before .before .before .before .before .args .t1) (c .before .before .before .before .before .before .before .before .before .before .before .before .before .before .before .before .before .before .before .before .before .before .before .before .before .before .before .before .before .before .before .before .before .before .before .before .pre .0) _ _ _ (c .before .before .before .before .before .before .before .before .before .before .before .before .before .before .before .before .before .before .before .before .before .before .before .before .before .before .before .before .before .before .before .before .before .before .shard-idents .ensures) (c .before .before .before .before .before .before .before .before .before .before .before .before .before .before .before .before .before .before .before .before .before .before .before .before .before .before .before .before .before .before .before .before .before .shard-seqnos .ensures) _ _ (sym (c .before .before .before .before .before .before .before .before .before .before .before .before .before .before .before .before .before .before .before .before .before .before .before .before .lookup .ensures) ∙ c .before .before .before .before .before .before .before .before .before .before .before .before .before .before .before .before .before .before .before .before .before .before .at .given .1) _ _) (eq-eqb _ _ (c .before .before .before .before .before .before .before .before .before .before .before .before .before .before .before .before .if2 .left))) _ (hold-replaces (c .before .before .before .before .before .before .before .before .before .before .before .before .before .before .before .before .before .before .before .before .before .before .before .before .before .before .before .before .before .loop .tails) (rows (c .before .before .before .before .before .before .before .before .before .before .before .before .before .before .before .before .before .before .before .before .before .before .before .before .before .before .before .before .before)) (c .before .before .before .before .before .before .before .cached-row .result) _ (sym (c .before .before .before .before .before .before .row-place .ensures) ∙ c .before .before .before .before .at2 .given .1) _ (sym (c .before .replaces-row .ensures) ∙ c .if3 .taken) ∙ ap (λ r. hold-row r (c .before .before .before .before .before .before .before .before .before .before .before .before .before .before .before .before .before .before .before .before .before .before .before .before .before .before .before .before .before .loop .tails)) (c .before .before .before .before .before .before .before .cached-row .ensures)) _ (c .before .before .before .before .before .before .before .before .before .before .before .before .before .before .next-ids .ensures) (two (c .before .before .before .before .before .before .before .before .before .before .before .before .before .before)) _ _ _ _ (c .before .before .before .before .before .before .before .before .before .before .fingerprint .ensures) (c .before .before .before .before .before .before .before .before .fingerprint2 .ensures),
+  queue-next (c .before .before .before .before .before .before .before .before .before .before .before .before .before .before .before .before .before .before .before .before .before .before .before .before .before .before .before .before .before .before .before .before .before .before .before .before .args .t1) (c .before .before .before .before .before .before .before .before .before .before .before .before .before .before .before .before .before .before .before .before .before .before .before .before .before .before .before .before .before .before .before .before .before .before .before .before .args .mc-seqno) (c .before .before .before .before .before .before .before .before .before .before .before .before .before .before .before .before .before .before .before .before .before .before .before .before .before .before .before .before .before .before .before .before .before .before .before .before .args .walk) (c .before .before .before .before .before .before .before .before .before .before .before .before .before .before .before .before .before .before .before .before .before .before .before .before .before .before .before .before .before .loop .j) (c .before .before .before .before .before .before .before .before .before .before .before .before .before .before .before .before .before .before .before .before .before .before .before .before .before .before .before .before .before .loop .tails) (c .before .before .before .before .before .before .before .before .before .before .before .before .before .before .before .before .before .before .before .before .before .before .before .before .before .before .before .before .before .loop .ids) (c .before .before .before .before .before .before .before .before .before .before .before .before .before .before .before .before .before .before .before .before .before .before .before .before .before .before .before .before .before .loop .fingerprints) (c .before .before .before .before .before .before .before .before .before .before .before .before .before .before .before .before .before .before .before .before .before .before .before .before .before .before .before .before .before .loop .count) (c .before .before .before .before .before .before .before .before .before .before .before .before .before .before .before .before .before .before .before .before .before .before .before .before .before .before .before .before .before .loop .inv .1) _ (c .before .before .before .before .before .before .before .before .before .before .before .before .before .before .before .before .before .before .before .before .before .before .before .before .before .before .before .before .loop-test .taken) _ (step-cached (c .before .before .before .before .before .before .before .before .before .before .before .before .before .before .before .before .before .before .before .before .before .before .before .before .before .before .before .before .before .before .before .before .before .before .before .before .args .t1) (c .before .before .before .before .before .before .before .before .before .before .before .before .before .before .before .before .before .before .before .before .before .before .before .before .before .before .before .before .before .before .before .before .before .before .before .before .args .mc-seqno) false _ (c .before .before .before .before .before .before .before .before .before .before .before .before .before .before .before .before .before .before .before .before .before .before .before .before .before .if1 .left) _ (cached-at-place (c .before .before .before .before .before .before .before .before .before .before .before .before .before .before .before .before .before .before .before .before .before .before .before .before .before .before .before .before .before .before .before .before .before .before .before .before .args .t1) (c .before .before .before .before .before .before .before .before .before .before .before .before .before .before .before .before .before .before .before .before .before .before .before .before .before .before .before .before .before .before .before .before .before .before .before .before .pre .0) _ _ _ (c .before .before .before .before .before .before .before .before .before .before .before .before .before .before .before .before .before .before .before .before .before .before .before .before .before .before .before .before .before .before .before .before .before .before .shard-idents .ensures) (c .before .before .before .before .before .before .before .before .before .before .before .before .before .before .before .before .before .before .before .before .before .before .before .before .before .before .before .before .before .before .before .before .before .shard-seqnos .ensures) _ _ (sym (c .before .before .before .before .before .before .before .before .before .before .before .before .before .before .before .before .before .before .before .before .before .before .before .before .block-place .ensures) ∙ c .before .before .before .before .before .before .before .before .before .before .before .before .before .before .before .before .before .before .before .before .before .before .at .given .1) _ _) (eq-eqb _ _ (c .before .before .before .before .before .before .before .before .before .before .before .before .before .before .before .before .if2 .left))) _ (hold-replaces (c .before .before .before .before .before .before .before .before .before .before .before .before .before .before .before .before .before .before .before .before .before .before .before .before .before .before .before .before .before .loop .tails) (rows (c .before .before .before .before .before .before .before .before .before .before .before .before .before .before .before .before .before .before .before .before .before .before .before .before .before .before .before .before .before)) (c .before .before .before .before .before .before .before .cached-row .result) _ (sym (c .before .before .before .before .before .before .row-place .ensures) ∙ c .before .before .before .before .at2 .given .1) _ (sym (c .before .replaces-last .ensures) ∙ c .if3 .taken) ∙ ap (λ r. hold-row r (c .before .before .before .before .before .before .before .before .before .before .before .before .before .before .before .before .before .before .before .before .before .before .before .before .before .before .before .before .before .loop .tails)) (c .before .before .before .before .before .before .before .cached-row .ensures)) _ (c .before .before .before .before .before .before .before .before .before .before .before .before .before .before .next-ids .ensures) (two (c .before .before .before .before .before .before .before .before .before .before .before .before .before .before)) _ _ _ _ (c .before .before .before .before .before .before .before .before .before .before .fingerprint .ensures) (c .before .before .before .before .before .before .before .before .fingerprint2 .ensures),
 )
 
 loop-less-6 : tie.Need-loop-less-6 Inv-loop μ-loop
@@ -241,7 +241,7 @@ loop-less-6 c = omega (arith, few (c .before .before .before .before .before .be
 loop-again-6 : tie.Need-loop-again-6 Inv-loop μ-loop
 loop-again-6 c = (
   rows (c .before .before .before .before .before .before .before .before .before .before .before .before .before .before .before .before .before .before .before .before .before .before .before .before .before .before .before .before .before),
-  queue-next (c .before .before .before .before .before .before .before .before .before .before .before .before .before .before .before .before .before .before .before .before .before .before .before .before .before .before .before .before .before .before .before .before .before .before .before .before .args .t1) (c .before .before .before .before .before .before .before .before .before .before .before .before .before .before .before .before .before .before .before .before .before .before .before .before .before .before .before .before .before .before .before .before .before .before .before .before .args .mc-seqno) (c .before .before .before .before .before .before .before .before .before .before .before .before .before .before .before .before .before .before .before .before .before .before .before .before .before .before .before .before .before .before .before .before .before .before .before .before .args .walk) (c .before .before .before .before .before .before .before .before .before .before .before .before .before .before .before .before .before .before .before .before .before .before .before .before .before .before .before .before .before .loop .j) (c .before .before .before .before .before .before .before .before .before .before .before .before .before .before .before .before .before .before .before .before .before .before .before .before .before .before .before .before .before .loop .tails) (c .before .before .before .before .before .before .before .before .before .before .before .before .before .before .before .before .before .before .before .before .before .before .before .before .before .before .before .before .before .loop .ids) (c .before .before .before .before .before .before .before .before .before .before .before .before .before .before .before .before .before .before .before .before .before .before .before .before .before .before .before .before .before .loop .fingerprints) (c .before .before .before .before .before .before .before .before .before .before .before .before .before .before .before .before .before .before .before .before .before .before .before .before .before .before .before .before .before .loop .count) (c .before .before .before .before .before .before .before .before .before .before .before .before .before .before .before .before .before .before .before .before .before .before .before .before .before .before .before .before .before .loop .inv .1) _ (c .before .before .before .before .before .before .before .before .before .before .before .before .before .before .before .before .before .before .before .before .before .before .before .before .before .before .before .before .loop-test .taken) _ (step-cached (c .before .before .before .before .before .before .before .before .before .before .before .before .before .before .before .before .before .before .before .before .before .before .before .before .before .before .before .before .before .before .before .before .before .before .before .before .args .t1) (c .before .before .before .before .before .before .before .before .before .before .before .before .before .before .before .before .before .before .before .before .before .before .before .before .before .before .before .before .before .before .before .before .before .before .before .before .args .mc-seqno) false _ (c .before .before .before .before .before .before .before .before .before .before .before .before .before .before .before .before .before .before .before .before .before .before .before .before .before .if1 .left) _ (cached-at-place (c .before .before .before .before .before .before .before .before .before .before .before .before .before .before .before .before .before .before .before .before .before .before .before .before .before .before .before .before .before .before .before .before .before .before .before .before .args .t1) (c .before .before .before .before .before .before .before .before .before .before .before .before .before .before .before .before .before .before .before .before .before .before .before .before .before .before .before .before .before .before .before .before .before .before .before .before .pre .0) _ _ _ (c .before .before .before .before .before .before .before .before .before .before .before .before .before .before .before .before .before .before .before .before .before .before .before .before .before .before .before .before .before .before .before .before .before .before .shard-idents .ensures) (c .before .before .before .before .before .before .before .before .before .before .before .before .before .before .before .before .before .before .before .before .before .before .before .before .before .before .before .before .before .before .before .before .before .shard-seqnos .ensures) _ _ (sym (c .before .before .before .before .before .before .before .before .before .before .before .before .before .before .before .before .before .before .before .before .before .before .before .before .lookup .ensures) ∙ c .before .before .before .before .before .before .before .before .before .before .before .before .before .before .before .before .before .before .before .before .before .before .at .given .1) _ _) (eq-eqb _ _ (c .before .before .before .before .before .before .before .before .before .before .before .before .before .before .before .before .if2 .left))) _ (hold-keeps (c .before .before .before .before .before .before .before .before .before .before .before .before .before .before .before .before .before .before .before .before .before .before .before .before .before .before .before .before .before .loop .tails) (rows (c .before .before .before .before .before .before .before .before .before .before .before .before .before .before .before .before .before .before .before .before .before .before .before .before .before .before .before .before .before)) (c .before .before .before .before .before .before .before .cached-row .result) _ (sym (c .before .before .before .before .before .before .row-place .ensures) ∙ c .before .before .before .before .at2 .given .1) _ (sym (c .before .replaces-row .ensures) ∙ c .if3 .left) ∙ ap (λ r. hold-row r (c .before .before .before .before .before .before .before .before .before .before .before .before .before .before .before .before .before .before .before .before .before .before .before .before .before .before .before .before .before .loop .tails)) (c .before .before .before .before .before .before .before .cached-row .ensures)) _ (c .before .before .before .before .before .before .before .before .before .before .before .before .before .before .next-ids .ensures) (two (c .before .before .before .before .before .before .before .before .before .before .before .before .before .before)) _ _ _ _ (c .before .before .before .before .before .before .before .before .before .before .fingerprint .ensures) (c .before .before .before .before .before .before .before .before .fingerprint2 .ensures),
+  queue-next (c .before .before .before .before .before .before .before .before .before .before .before .before .before .before .before .before .before .before .before .before .before .before .before .before .before .before .before .before .before .before .before .before .before .before .before .before .args .t1) (c .before .before .before .before .before .before .before .before .before .before .before .before .before .before .before .before .before .before .before .before .before .before .before .before .before .before .before .before .before .before .before .before .before .before .before .before .args .mc-seqno) (c .before .before .before .before .before .before .before .before .before .before .before .before .before .before .before .before .before .before .before .before .before .before .before .before .before .before .before .before .before .before .before .before .before .before .before .before .args .walk) (c .before .before .before .before .before .before .before .before .before .before .before .before .before .before .before .before .before .before .before .before .before .before .before .before .before .before .before .before .before .loop .j) (c .before .before .before .before .before .before .before .before .before .before .before .before .before .before .before .before .before .before .before .before .before .before .before .before .before .before .before .before .before .loop .tails) (c .before .before .before .before .before .before .before .before .before .before .before .before .before .before .before .before .before .before .before .before .before .before .before .before .before .before .before .before .before .loop .ids) (c .before .before .before .before .before .before .before .before .before .before .before .before .before .before .before .before .before .before .before .before .before .before .before .before .before .before .before .before .before .loop .fingerprints) (c .before .before .before .before .before .before .before .before .before .before .before .before .before .before .before .before .before .before .before .before .before .before .before .before .before .before .before .before .before .loop .count) (c .before .before .before .before .before .before .before .before .before .before .before .before .before .before .before .before .before .before .before .before .before .before .before .before .before .before .before .before .before .loop .inv .1) _ (c .before .before .before .before .before .before .before .before .before .before .before .before .before .before .before .before .before .before .before .before .before .before .before .before .before .before .before .before .loop-test .taken) _ (step-cached (c .before .before .before .before .before .before .before .before .before .before .before .before .before .before .before .before .before .before .before .before .before .before .before .before .before .before .before .before .before .before .before .before .before .before .before .before .args .t1) (c .before .before .before .before .before .before .before .before .before .before .before .before .before .before .before .before .before .before .before .before .before .before .before .before .before .before .before .before .before .before .before .before .before .before .before .before .args .mc-seqno) false _ (c .before .before .before .before .before .before .before .before .before .before .before .before .before .before .before .before .before .before .before .before .before .before .before .before .before .if1 .left) _ (cached-at-place (c .before .before .before .before .before .before .before .before .before .before .before .before .before .before .before .before .before .before .before .before .before .before .before .before .before .before .before .before .before .before .before .before .before .before .before .before .args .t1) (c .before .before .before .before .before .before .before .before .before .before .before .before .before .before .before .before .before .before .before .before .before .before .before .before .before .before .before .before .before .before .before .before .before .before .before .before .pre .0) _ _ _ (c .before .before .before .before .before .before .before .before .before .before .before .before .before .before .before .before .before .before .before .before .before .before .before .before .before .before .before .before .before .before .before .before .before .before .shard-idents .ensures) (c .before .before .before .before .before .before .before .before .before .before .before .before .before .before .before .before .before .before .before .before .before .before .before .before .before .before .before .before .before .before .before .before .before .shard-seqnos .ensures) _ _ (sym (c .before .before .before .before .before .before .before .before .before .before .before .before .before .before .before .before .before .before .before .before .before .before .before .before .block-place .ensures) ∙ c .before .before .before .before .before .before .before .before .before .before .before .before .before .before .before .before .before .before .before .before .before .before .at .given .1) _ _) (eq-eqb _ _ (c .before .before .before .before .before .before .before .before .before .before .before .before .before .before .before .before .if2 .left))) _ (hold-keeps (c .before .before .before .before .before .before .before .before .before .before .before .before .before .before .before .before .before .before .before .before .before .before .before .before .before .before .before .before .before .loop .tails) (rows (c .before .before .before .before .before .before .before .before .before .before .before .before .before .before .before .before .before .before .before .before .before .before .before .before .before .before .before .before .before)) (c .before .before .before .before .before .before .before .cached-row .result) _ (sym (c .before .before .before .before .before .before .row-place .ensures) ∙ c .before .before .before .before .at2 .given .1) _ (sym (c .before .replaces-last .ensures) ∙ c .if3 .left) ∙ ap (λ r. hold-row r (c .before .before .before .before .before .before .before .before .before .before .before .before .before .before .before .before .before .before .before .before .before .before .before .before .before .before .before .before .before .loop .tails)) (c .before .before .before .before .before .before .before .cached-row .ensures)) _ (c .before .before .before .before .before .before .before .before .before .before .before .before .before .before .next-ids .ensures) (two (c .before .before .before .before .before .before .before .before .before .before .before .before .before .before)) _ _ _ _ (c .before .before .before .before .before .before .before .before .before .before .fingerprint .ensures) (c .before .before .before .before .before .before .before .before .fingerprint2 .ensures),
 )
 
 returns : tie.Need-returns Inv-loop μ-loop
@@ -264,7 +264,7 @@ take-queued-spec =
     add-j
     loop-less
     loop-again
-    lookup-requires
+    block-place-requires
     enum-known-at
     enum-told
     loop-less-2
@@ -304,7 +304,7 @@ take-queued-spec =
     loop-again-4
     mul-old
     element-copy-out-old
-    replaces-row-requires
+    replaces-last-requires
     mul-row
     element-set-from-row
     loop-less-5

@@ -8,14 +8,14 @@ use native.Mathlib.Omega.{arith}
 use borrow.Author.Needs.{needs}
 use lib.ListN.{length, take}
 use lib.Seq.{length-take-le}
-use Rattle.block_records.proofs.ArrayLaws.{take-within, within-few}
-use Rattle.block_records.proofs.LoopLaws.{length-mapped}
-use Rattle.block_records.specs.Lists.{each, fold}
-use Rattle.blocks_cache.specs.Extraction.{top-id}
-use Rattle.blocks_cache.specs.TailArrays.{hold-row, pack-walk, take-tail-id}
-use Rattle.blocks_cache.proofs.BlockPlaceLaws.{cached-at-place, cached-entry-within, cached-group-within, not-cached}
-use Rattle.blocks_cache.proofs.TailArrayLaws.{step-cached, step-missing, step-skipped}
-use Rattle.blocks_cache.proofs.TailWalkLaws.{TopsTaken, tops-next, tops-passed, tops-start, tops-unqueued, waits-few, waits-fingerprints, waits-length, waits-more}
+use Rattle.block_records.proofs.arrays.ArrayLaws.{take-within, within-few}
+use Rattle.block_records.proofs.arrays.LoopLaws.{length-mapped}
+use Rattle.block_records.specs.rules.Lists.{each, fold}
+use Rattle.cache_rules.specs.Extraction.{top-id}
+use Rattle.blocks_cache.specs.arrays.TailIds.{hold-row, pack-walk, take-tail-id}
+use Rattle.blocks_cache.proofs.arrays.LookupLaws.{cached-at-place, cached-entry-within, cached-group-within, not-cached}
+use Rattle.blocks_cache.proofs.arrays.TailRowLaws.{step-cached, step-missing, step-skipped}
+use Rattle.blocks_cache.proofs.arrays.TailWalkLaws.{TopsTaken, tops-next, tops-passed, tops-start, tops-unqueued, waits-few, waits-fingerprints, waits-length, waits-more}
 use Rattle.blocks_cache.proofs.tail_ids.take_tops.Statement.{statement}
 use Rattle.blocks_cache.proofs.tail_ids.take_tops.Tie as tie
 
@@ -48,10 +48,10 @@ abbrev at-loop : tie.After-known-told Inv-loop μ-loop → tie.At-loop Inv-loop 
 at-loop k = k .before .before .before .before .before .before .before .before .before
 
 group-place : (k : tie.After-known-told Inv-loop μ-loop) → k .before .at .given .0 .0 < 8
-group-place k = let a = at-loop k in let s = start a in cached-group-within (s .args .t1) (s .pre) _ _ _ (a .before .before .before .before .before .shard-idents .ensures) (a .before .before .before .before .shard-seqnos .ensures) _ _ (sym (k .before .before .before .lookup .ensures) ∙ k .before .at .given .1)
+group-place k = let a = at-loop k in let s = start a in cached-group-within (s .args .t1) (s .pre) _ _ _ (a .before .before .before .before .before .shard-idents .ensures) (a .before .before .before .before .shard-seqnos .ensures) _ _ (sym (k .before .before .before .block-place .ensures) ∙ k .before .at .given .1)
 
 entry-place : (k : tie.After-known-told Inv-loop μ-loop) → k .before .at .given .0 .1 .0 < 16
-entry-place k = let a = at-loop k in let s = start a in cached-entry-within (s .args .t1) (s .pre) _ _ _ (a .before .before .before .before .before .shard-idents .ensures) (a .before .before .before .before .shard-seqnos .ensures) _ _ (sym (k .before .before .before .lookup .ensures) ∙ k .before .at .given .1)
+entry-place k = let a = at-loop k in let s = start a in cached-entry-within (s .args .t1) (s .pre) _ _ _ (a .before .before .before .before .before .shard-idents .ensures) (a .before .before .before .before .shard-seqnos .ensures) _ _ (sym (k .before .before .before .block-place .ensures) ∙ k .before .at .given .1)
 
 shard-idents-requires : tie.Need-shard-idents-requires Inv-loop μ-loop
 shard-idents-requires c κs = search needs
@@ -88,8 +88,8 @@ loop-again c =
     tops-unqueued (c .before .before .before .before .before .before .before .before .before .before .before .before .args .t1) (c .before .before .before .before .before .before .before .before .before .before .before .before .args .mc-seqno) (c .before .before .before .before .before .before .before .before .before .before .before .before .args .t4 .items) _ _ (c .before .before .before .before .before .loop .i) (c .before .before .before .before .before .loop .tails) (c .before .before .before .before .before .loop .ids) (c .before .before .before .before .before .loop .fingerprints) (c .before .before .before .before .before .loop .count) (c .before .before .before .before .before .loop .inv) _ (omega (arith, few-items (c .before .before .before .before .before), long (c .before .before .before .before .before .before .before .before .before .before .before .before), c .before .before .before .before .loop-test .taken)) (c .before .before .before .before .loop-test .taken)
     _ (step-skipped (c .before .before .before .before .before .before .before .before .before .before .before .before .args .t1) (c .before .before .before .before .before .before .before .before .before .before .before .before .args .mc-seqno) true _ (c .if1 .taken)) refl _ refl
 
-lookup-requires : tie.Need-lookup-requires Inv-loop μ-loop
-lookup-requires c κs = search needs
+block-place-requires : tie.Need-block-place-requires Inv-loop μ-loop
+block-place-requires c κs = search needs
 
 enum-known-at : tie.Need-enum-known-at Inv-loop μ-loop
 enum-known-at c = search needs
@@ -109,7 +109,7 @@ loop-less-2 c = omega (arith, c .before .before .before .before .before .before 
 loop-again-2 : tie.Need-loop-again-2 Inv-loop μ-loop
 loop-again-2 c =
     tops-unqueued (c .before .before .before .before .before .before .before .before .before .before .before .before .before .before .before .before .before .args .t1) (c .before .before .before .before .before .before .before .before .before .before .before .before .before .before .before .before .before .args .mc-seqno) (c .before .before .before .before .before .before .before .before .before .before .before .before .before .before .before .before .before .args .t4 .items) _ _ (c .before .before .before .before .before .before .before .before .before .before .loop .i) (c .before .before .before .before .before .before .before .before .before .before .loop .tails) (c .before .before .before .before .before .before .before .before .before .before .loop .ids) (c .before .before .before .before .before .before .before .before .before .before .loop .fingerprints) (c .before .before .before .before .before .before .before .before .before .before .loop .count) (c .before .before .before .before .before .before .before .before .before .before .loop .inv) _ (omega (arith, few-items (c .before .before .before .before .before .before .before .before .before .before), long (c .before .before .before .before .before .before .before .before .before .before .before .before .before .before .before .before .before), c .before .before .before .before .before .before .before .before .before .loop-test .taken)) (c .before .before .before .before .before .before .before .before .before .loop-test .taken)
-    _ (step-missing (c .before .before .before .before .before .before .before .before .before .before .before .before .before .before .before .before .before .args .t1) (c .before .before .before .before .before .before .before .before .before .before .before .before .before .before .before .before .before .args .mc-seqno) true _ (c .before .before .before .before .before .if1 .left) (not-cached (c .before .before .before .before .before .before .before .before .before .before .before .before .before .before .before .before .before .args .t1) (c .before .before .before .before .before .before .before .before .before .before .before .before .before .before .before .before .before .pre) _ _ _ (c .before .before .before .before .before .before .before .before .before .before .before .before .before .before .before .shard-idents .ensures) (c .before .before .before .before .before .before .before .before .before .before .before .before .before .before .shard-seqnos .ensures) (sym (c .before .before .before .before .lookup .ensures) ∙ c .before .before .enum-told .given .1)) refl) refl _ (c .hold-row .ensures ∙ ap (λ r. hold-row r (c .before .before .before .before .before .before .before .before .before .before .loop .tails)) (c .before .missing-row .ensures))
+    _ (step-missing (c .before .before .before .before .before .before .before .before .before .before .before .before .before .before .before .before .before .args .t1) (c .before .before .before .before .before .before .before .before .before .before .before .before .before .before .before .before .before .args .mc-seqno) true _ (c .before .before .before .before .before .if1 .left) (not-cached (c .before .before .before .before .before .before .before .before .before .before .before .before .before .before .before .before .before .args .t1) (c .before .before .before .before .before .before .before .before .before .before .before .before .before .before .before .before .before .pre) _ _ _ (c .before .before .before .before .before .before .before .before .before .before .before .before .before .before .before .shard-idents .ensures) (c .before .before .before .before .before .before .before .before .before .before .before .before .before .before .shard-seqnos .ensures) (sym (c .before .before .before .before .block-place .ensures) ∙ c .before .before .enum-told .given .1)) refl) refl _ (c .hold-row .ensures ∙ ap (λ r. hold-row r (c .before .before .before .before .before .before .before .before .before .before .loop .tails)) (c .before .missing-row .ensures))
 
 mul-held : tie.Need-mul-held Inv-loop μ-loop
 mul-held c = omega (arith, group-place (c))
@@ -189,7 +189,7 @@ array-write-fingerprints-2 c = omega (arith, few (c .before .before .before .bef
 add-count : tie.Need-add-count Inv-loop μ-loop
 add-count c =
     let a = c .before .before .before .before .before .before .before .before .before .before .before .before .before .before .before .before .before .before .before .before .before .before in
-    let w = waits-more (c .before .before .before .before .before .before .before .before .before .before .before .before .before .before .before .before .before .before .before .before .before .before .before .before .before .before .before .before .before .args .t1) (c .before .before .before .before .before .before .before .before .before .before .before .before .before .before .before .before .before .before .before .before .before .before .before .before .before .before .before .before .before .args .mc-seqno) true (a .loop .tails) (a .loop .ids) (a .loop .fingerprints) (a .loop .count) (a .loop .inv .waits) _ _ (step-cached (c .before .before .before .before .before .before .before .before .before .before .before .before .before .before .before .before .before .before .before .before .before .before .before .before .before .before .before .before .before .args .t1) (c .before .before .before .before .before .before .before .before .before .before .before .before .before .before .before .before .before .before .before .before .before .before .before .before .before .before .before .before .before .args .mc-seqno) true _ (c .before .before .before .before .before .before .before .before .before .before .before .before .before .before .before .before .before .if1 .left) _ (cached-at-place (c .before .before .before .before .before .before .before .before .before .before .before .before .before .before .before .before .before .before .before .before .before .before .before .before .before .before .before .before .before .args .t1) (c .before .before .before .before .before .before .before .before .before .before .before .before .before .before .before .before .before .before .before .before .before .before .before .before .before .before .before .before .before .pre) _ _ _ (c .before .before .before .before .before .before .before .before .before .before .before .before .before .before .before .before .before .before .before .before .before .before .before .before .before .before .before .shard-idents .ensures) (c .before .before .before .before .before .before .before .before .before .before .before .before .before .before .before .before .before .before .before .before .before .before .before .before .before .before .shard-seqnos .ensures) _ _ (sym (c .before .before .before .before .before .before .before .before .before .before .before .before .before .before .before .before .lookup .ensures) ∙ c .before .before .before .before .before .before .before .before .before .before .before .before .before .before .at .given .1) _ _) refl) _ (c .before .before .before .before .before .before .next-ids .ensures) (two (c .before .before .before .before .before .before)) _ _ _ _ (c .before .before .fingerprint .ensures) (c .fingerprint2 .ensures) in
+    let w = waits-more (c .before .before .before .before .before .before .before .before .before .before .before .before .before .before .before .before .before .before .before .before .before .before .before .before .before .before .before .before .before .args .t1) (c .before .before .before .before .before .before .before .before .before .before .before .before .before .before .before .before .before .before .before .before .before .before .before .before .before .before .before .before .before .args .mc-seqno) true (a .loop .tails) (a .loop .ids) (a .loop .fingerprints) (a .loop .count) (a .loop .inv .waits) _ _ (step-cached (c .before .before .before .before .before .before .before .before .before .before .before .before .before .before .before .before .before .before .before .before .before .before .before .before .before .before .before .before .before .args .t1) (c .before .before .before .before .before .before .before .before .before .before .before .before .before .before .before .before .before .before .before .before .before .before .before .before .before .before .before .before .before .args .mc-seqno) true _ (c .before .before .before .before .before .before .before .before .before .before .before .before .before .before .before .before .before .if1 .left) _ (cached-at-place (c .before .before .before .before .before .before .before .before .before .before .before .before .before .before .before .before .before .before .before .before .before .before .before .before .before .before .before .before .before .args .t1) (c .before .before .before .before .before .before .before .before .before .before .before .before .before .before .before .before .before .before .before .before .before .before .before .before .before .before .before .before .before .pre) _ _ _ (c .before .before .before .before .before .before .before .before .before .before .before .before .before .before .before .before .before .before .before .before .before .before .before .before .before .before .before .shard-idents .ensures) (c .before .before .before .before .before .before .before .before .before .before .before .before .before .before .before .before .before .before .before .before .before .before .before .before .before .before .shard-seqnos .ensures) _ _ (sym (c .before .before .before .before .before .before .before .before .before .before .before .before .before .before .before .before .block-place .ensures) ∙ c .before .before .before .before .before .before .before .before .before .before .before .before .before .before .at .given .1) _ _) refl) _ (c .before .before .before .before .before .before .next-ids .ensures) (two (c .before .before .before .before .before .before)) _ _ _ _ (c .before .before .fingerprint .ensures) (c .fingerprint2 .ensures) in
     omega (arith, waits-few _ _ _ w)
 
 loop-less-3 : tie.Need-loop-less-3 Inv-loop μ-loop
@@ -197,7 +197,7 @@ loop-less-3 c = omega (arith, c .before .before .before .before .before .before 
 
 loop-again-3 : tie.Need-loop-again-3 Inv-loop μ-loop
 loop-again-3 c =
-    tops-next (c .before .before .before .before .before .before .before .before .before .before .before .before .before .before .before .before .before .before .before .before .before .before .before .before .before .before .before .before .before .args .t1) (c .before .before .before .before .before .before .before .before .before .before .before .before .before .before .before .before .before .before .before .before .before .before .before .before .before .before .before .before .before .args .mc-seqno) (c .before .before .before .before .before .before .before .before .before .before .before .before .before .before .before .before .before .before .before .before .before .before .before .before .before .before .before .before .before .args .t4 .items) _ _ (c .before .before .before .before .before .before .before .before .before .before .before .before .before .before .before .before .before .before .before .before .before .before .loop .i) (c .before .before .before .before .before .before .before .before .before .before .before .before .before .before .before .before .before .before .before .before .before .before .loop .tails) (c .before .before .before .before .before .before .before .before .before .before .before .before .before .before .before .before .before .before .before .before .before .before .loop .ids) (c .before .before .before .before .before .before .before .before .before .before .before .before .before .before .before .before .before .before .before .before .before .before .loop .fingerprints) (c .before .before .before .before .before .before .before .before .before .before .before .before .before .before .before .before .before .before .before .before .before .before .loop .count) (c .before .before .before .before .before .before .before .before .before .before .before .before .before .before .before .before .before .before .before .before .before .before .loop .inv) _ (omega (arith, few-items (c .before .before .before .before .before .before .before .before .before .before .before .before .before .before .before .before .before .before .before .before .before .before), long (c .before .before .before .before .before .before .before .before .before .before .before .before .before .before .before .before .before .before .before .before .before .before .before .before .before .before .before .before .before), c .before .before .before .before .before .before .before .before .before .before .before .before .before .before .before .before .before .before .before .before .before .loop-test .taken)) (c .before .before .before .before .before .before .before .before .before .before .before .before .before .before .before .before .before .before .before .before .before .loop-test .taken) _ (step-cached (c .before .before .before .before .before .before .before .before .before .before .before .before .before .before .before .before .before .before .before .before .before .before .before .before .before .before .before .before .before .args .t1) (c .before .before .before .before .before .before .before .before .before .before .before .before .before .before .before .before .before .before .before .before .before .before .before .before .before .before .before .before .before .args .mc-seqno) true _ (c .before .before .before .before .before .before .before .before .before .before .before .before .before .before .before .before .before .if1 .left) _ (cached-at-place (c .before .before .before .before .before .before .before .before .before .before .before .before .before .before .before .before .before .before .before .before .before .before .before .before .before .before .before .before .before .args .t1) (c .before .before .before .before .before .before .before .before .before .before .before .before .before .before .before .before .before .before .before .before .before .before .before .before .before .before .before .before .before .pre) _ _ _ (c .before .before .before .before .before .before .before .before .before .before .before .before .before .before .before .before .before .before .before .before .before .before .before .before .before .before .before .shard-idents .ensures) (c .before .before .before .before .before .before .before .before .before .before .before .before .before .before .before .before .before .before .before .before .before .before .before .before .before .before .shard-seqnos .ensures) _ _ (sym (c .before .before .before .before .before .before .before .before .before .before .before .before .before .before .before .before .lookup .ensures) ∙ c .before .before .before .before .before .before .before .before .before .before .before .before .before .before .at .given .1) _ _) refl) _ (c .before .before .before .before .before .before .before .before .hold-row2 .ensures ∙ ap (λ r. hold-row r (c .before .before .before .before .before .before .before .before .before .before .before .before .before .before .before .before .before .before .before .before .before .before .loop .tails)) (c .before .before .before .before .before .before .before .before .before .cached-row .ensures)) _ (c .before .before .before .before .before .before .next-ids .ensures) (two (c .before .before .before .before .before .before)) _ _ _ _ (c .before .before .fingerprint .ensures) (c .fingerprint2 .ensures)
+    tops-next (c .before .before .before .before .before .before .before .before .before .before .before .before .before .before .before .before .before .before .before .before .before .before .before .before .before .before .before .before .before .args .t1) (c .before .before .before .before .before .before .before .before .before .before .before .before .before .before .before .before .before .before .before .before .before .before .before .before .before .before .before .before .before .args .mc-seqno) (c .before .before .before .before .before .before .before .before .before .before .before .before .before .before .before .before .before .before .before .before .before .before .before .before .before .before .before .before .before .args .t4 .items) _ _ (c .before .before .before .before .before .before .before .before .before .before .before .before .before .before .before .before .before .before .before .before .before .before .loop .i) (c .before .before .before .before .before .before .before .before .before .before .before .before .before .before .before .before .before .before .before .before .before .before .loop .tails) (c .before .before .before .before .before .before .before .before .before .before .before .before .before .before .before .before .before .before .before .before .before .before .loop .ids) (c .before .before .before .before .before .before .before .before .before .before .before .before .before .before .before .before .before .before .before .before .before .before .loop .fingerprints) (c .before .before .before .before .before .before .before .before .before .before .before .before .before .before .before .before .before .before .before .before .before .before .loop .count) (c .before .before .before .before .before .before .before .before .before .before .before .before .before .before .before .before .before .before .before .before .before .before .loop .inv) _ (omega (arith, few-items (c .before .before .before .before .before .before .before .before .before .before .before .before .before .before .before .before .before .before .before .before .before .before), long (c .before .before .before .before .before .before .before .before .before .before .before .before .before .before .before .before .before .before .before .before .before .before .before .before .before .before .before .before .before), c .before .before .before .before .before .before .before .before .before .before .before .before .before .before .before .before .before .before .before .before .before .loop-test .taken)) (c .before .before .before .before .before .before .before .before .before .before .before .before .before .before .before .before .before .before .before .before .before .loop-test .taken) _ (step-cached (c .before .before .before .before .before .before .before .before .before .before .before .before .before .before .before .before .before .before .before .before .before .before .before .before .before .before .before .before .before .args .t1) (c .before .before .before .before .before .before .before .before .before .before .before .before .before .before .before .before .before .before .before .before .before .before .before .before .before .before .before .before .before .args .mc-seqno) true _ (c .before .before .before .before .before .before .before .before .before .before .before .before .before .before .before .before .before .if1 .left) _ (cached-at-place (c .before .before .before .before .before .before .before .before .before .before .before .before .before .before .before .before .before .before .before .before .before .before .before .before .before .before .before .before .before .args .t1) (c .before .before .before .before .before .before .before .before .before .before .before .before .before .before .before .before .before .before .before .before .before .before .before .before .before .before .before .before .before .pre) _ _ _ (c .before .before .before .before .before .before .before .before .before .before .before .before .before .before .before .before .before .before .before .before .before .before .before .before .before .before .before .shard-idents .ensures) (c .before .before .before .before .before .before .before .before .before .before .before .before .before .before .before .before .before .before .before .before .before .before .before .before .before .before .shard-seqnos .ensures) _ _ (sym (c .before .before .before .before .before .before .before .before .before .before .before .before .before .before .before .before .block-place .ensures) ∙ c .before .before .before .before .before .before .before .before .before .before .before .before .before .before .at .given .1) _ _) refl) _ (c .before .before .before .before .before .before .before .before .hold-row2 .ensures ∙ ap (λ r. hold-row r (c .before .before .before .before .before .before .before .before .before .before .before .before .before .before .before .before .before .before .before .before .before .before .loop .tails)) (c .before .before .before .before .before .before .before .before .before .cached-row .ensures)) _ (c .before .before .before .before .before .before .next-ids .ensures) (two (c .before .before .before .before .before .before)) _ _ _ _ (c .before .before .fingerprint .ensures) (c .fingerprint2 .ensures)
 
 returns : tie.Need-returns Inv-loop μ-loop
 returns c =
@@ -225,7 +225,7 @@ take-tops-spec =
     add-i
     loop-less
     loop-again
-    lookup-requires
+    block-place-requires
     enum-known-at
     enum-told
     missing-row-requires

@@ -1,6 +1,6 @@
 -- Assumes nothing.
 use borrow.Author.Needs.{needs}
-use Rattle.block_records.specs.Lists.{padded}
+use Rattle.block_records.specs.rules.Lists.{padded}
 use Rattle.blocks_cache.proofs.tail_ids.two_ids.Statement.{statement}
 use Rattle.blocks_cache.proofs.tail_ids.two_ids.Tie as tie
 

@@ -1,6 +1,6 @@
 -- Assumes nothing.
 use borrow.Author.Needs.{needs}
-use Rattle.blocks_cache.specs.TailArrays.{zero-tail}
+use Rattle.blocks_cache.specs.arrays.TailIds.{zero-tail}
 use Rattle.blocks_cache.proofs.tail_ids.zero_tail.Statement.{statement}
 use Rattle.blocks_cache.proofs.tail_ids.zero_tail.Tie as tie
 

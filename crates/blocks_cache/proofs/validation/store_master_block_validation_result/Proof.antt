@@ -2,9 +2,9 @@
 -- Assumes nothing.
 use mathlib.Core.Path.{_∙_, ap, sym}
 use borrow.Author.Tests.{not-false, not-true}
-use Rattle.blocks_cache.proofs.CallLaws.{unsound-answers-1}
-use Rattle.blocks_cache.specs.Validations.{validation-outcome}
-use Rattle.blocks_cache.proofs.ValidationLaws.{validation-is, validation-refuses}
+use Rattle.blocks_cache.proofs.layout.CallLaws.{unsound-answers-1}
+use Rattle.blocks_cache.specs.arrays.Validation.{validation-outcome}
+use Rattle.blocks_cache.proofs.arrays.ValidationLaws.{validation-is, validation-refuses}
 use borrow.Author.Needs.{needs}
 use Rattle.blocks_cache.proofs.validation.store_master_block_validation_result.Statement.{statement}
 use Rattle.blocks_cache.proofs.validation.store_master_block_validation_result.Tie as tie

@@ -5,9 +5,9 @@ use mathlib.Core.Logic.{⊎-elim}
 use Prim.Native.Nat.{_-_, _≤_}
 use native.Mathlib.Omega.{arith}
 use lib.ListN.{length}
-use Rattle.block_records.proofs.ArrayLaws.{Compacted, compact-end, compact-no, compact-start, compact-yes}
-use Rattle.block_records.proofs.LoopLaws.{length-mapped}
-use Rattle.block_records.specs.Zeros.{zero-tops}
+use Rattle.block_records.proofs.arrays.ArrayLaws.{Compacted, compact-end, compact-no, compact-start, compact-yes}
+use Rattle.block_records.proofs.arrays.LoopLaws.{length-mapped}
+use Rattle.block_records.specs.layout.Zeros.{zero-tops}
 use borrow.Author.Needs.{needs}
 use Rattle.blocks_group.proofs.group.compact_tops.Statement.{statement}
 use Rattle.blocks_group.proofs.group.compact_tops.Tie as tie

@@ -5,10 +5,10 @@ use mathlib.Core.Bool.{false}
 use Prim.Native.Nat.{_-_, _≤_}
 use native.Mathlib.Omega.{arith}
 use lib.ListN.{length, length-set, take}
-use Rattle.block_records.proofs.ArrayLaws.{each-end, each-next, take-within, within-few}
-use Rattle.block_records.proofs.LoopLaws.{length-mapped, padded-nil}
-use Rattle.block_records.specs.Lists.{each, padded}
-use Rattle.blocks_group.specs.GroupArrays.{retains}
+use Rattle.block_records.proofs.arrays.ArrayLaws.{each-end, each-next, take-within, within-few}
+use Rattle.block_records.proofs.arrays.LoopLaws.{length-mapped, padded-nil}
+use Rattle.block_records.specs.rules.Lists.{each, padded}
+use Rattle.blocks_group.specs.arrays.Group.{retains}
 use borrow.Author.Needs.{needs}
 use Rattle.blocks_group.proofs.group.keep_flags.Statement.{statement}
 use Rattle.blocks_group.proofs.group.keep_flags.Tie as tie

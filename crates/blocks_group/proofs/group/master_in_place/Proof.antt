@@ -3,9 +3,9 @@
 use mathlib.Core.Path.{_∙_, _≡_, sym}
 use native.Mathlib.Omega.{arith}
 use lib.ListN.{List·getD-eq-default, length}
-use Rattle.block_records.specs.Zeros.{zero-entry, zero-master, zero-tops}
-use Rattle.block_records.proofs.ArrayLaws.{getD-any}
-use Rattle.block_records.proofs.LoopLaws.{length-mapped}
+use Rattle.block_records.specs.layout.Zeros.{zero-entry, zero-master, zero-tops}
+use Rattle.block_records.proofs.arrays.ArrayLaws.{getD-any}
+use Rattle.block_records.proofs.arrays.LoopLaws.{length-mapped}
 use borrow.Author.Needs.{needs}
 use Rattle.blocks_group.proofs.group.master_in_place.Statement.{statement}
 use Rattle.blocks_group.proofs.group.master_in_place.Tie as tie

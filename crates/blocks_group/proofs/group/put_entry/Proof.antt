@@ -4,12 +4,12 @@ use mathlib.Core.Path.{_∙_, _≡_, sym}
 use native.Mathlib.Omega.{arith}
 use borrow.Author.Needs.{needs}
 use lib.ListN.{length}
-use Rattle.block_records.proofs.LoopLaws.{length-mapped}
-use Rattle.blocks_group.specs.declared.search.Found.the-variants.{At as found-at, Vacant as vacant-at}
-use Rattle.blocks_group.specs.GroupArrays.{listed-entries, listed-seqnos, record-seqno}
-use Rattle.blocks_group.specs.Search.{place}
-use Rattle.blocks_group.proofs.GroupStepLaws.{found-place, listed-below, listed-few, put-entry-found, put-entry-full, put-entry-vacant}
-use Rattle.blocks_group.proofs.PutLaws.{found-splices, vacant-splices}
+use Rattle.block_records.proofs.arrays.LoopLaws.{length-mapped}
+use Rattle.block_records.specs.declared.place.Place.the-variants.{At as place-at, Vacant as vacant-at}
+use Rattle.blocks_group.specs.arrays.Group.{listed-entries, listed-seqnos, held-seqno}
+use Rattle.blocks_group.specs.arrays.Search.{seqno-place}
+use Rattle.blocks_group.proofs.arrays.GroupStepLaws.{found-place, listed-below, listed-few, put-entry-found, put-entry-full, put-entry-vacant}
+use Rattle.blocks_group.proofs.arrays.PutLaws.{found-splices, vacant-splices}
 use Rattle.blocks_group.proofs.group.put_entry.Statement.{statement}
 use Rattle.blocks_group.proofs.group.put_entry.Tie as tie
 
@@ -17,14 +17,14 @@ len : (c : tie.Start) → length (c .args .group .entries) ≡ 16
 len c = search (needs, length-mapped)
 
 -- what the search answered
-found : (c : tie.After-known-told) → place (record-seqno (c .before .before .before .before .args .entry)) (listed-seqnos (c .before .before .before .before .args .group)) ≡ found-at (c .before .found .given .0 .0)
-found c = sym (c .before .before .before .find .ensures) ∙ c .before .found .given .1
+found : (c : tie.After-known-told) → seqno-place (held-seqno (c .before .before .before .before .args .entry)) (listed-seqnos (c .before .before .before .before .args .group)) ≡ place-at (c .before .found .given .0 .0)
+found c = sym (c .before .before .before .entry-place .ensures) ∙ c .before .found .given .1
 
-vacant : (c : tie.After-known-told2) → place (record-seqno (c .before .before .before .before .args .entry)) (listed-seqnos (c .before .before .before .before .args .group)) ≡ vacant-at (c .before .found2 .given .0 .0)
-vacant c = sym (c .before .before .before .find .ensures) ∙ c .before .found2 .given .1
+vacant : (c : tie.After-known-told2) → seqno-place (held-seqno (c .before .before .before .before .args .entry)) (listed-seqnos (c .before .before .before .before .args .group)) ≡ vacant-at (c .before .found2 .given .0 .0)
+vacant c = sym (c .before .before .before .entry-place .ensures) ∙ c .before .found2 .given .1
 
-find-requires : tie.Need-find-requires
-find-requires c κs = search needs
+entry-place-requires : tie.Need-entry-place-requires
+entry-place-requires c κs = search needs
 
 enum-known-found : tie.Need-enum-known-found
 enum-known-found c = search needs
@@ -35,7 +35,7 @@ add-put-entry-at c = let s = c .before .before .before .before in omega (arith, 
 put-entry-at-requires : tie.Need-put-entry-at-requires
 put-entry-at-requires c κs =
     let s = c .before .before .before .before in
-    found-splices 16 record-seqno (s .args .entry) (listed-entries (s .args .group)) _ (found c) (listed-few (s .args .group) (len s))
+    found-splices 16 held-seqno (s .args .entry) (listed-entries (s .args .group)) _ (found c) (listed-few (s .args .group) (len s))
 
 enum-known-found-2 : tie.Need-enum-known-found-2
 enum-known-found-2 c = search needs
@@ -43,7 +43,7 @@ enum-known-found-2 c = search needs
 put-entry-at-requires-2 : tie.Need-put-entry-at-requires-2
 put-entry-at-requires-2 c κs =
     let s = c .before .before .before .before .before .before in
-    vacant-splices 16 record-seqno (s .args .entry) (listed-entries (s .args .group)) _ (vacant (c .before .before)) (listed-below (s .args .group) (len s) (c .if1 .taken))
+    vacant-splices 16 held-seqno (s .args .entry) (listed-entries (s .args .group)) _ (vacant (c .before .before)) (listed-below (s .args .group) (len s) (c .if1 .taken))
 
 returns : tie.Need-returns
 returns c =
@@ -64,7 +64,7 @@ pub put-entry-spec : {M : Type 1} → statement M
 put-entry-spec =
     tie.close
     (tie.spec
-    find-requires
+    entry-place-requires
     enum-known-found
     add-put-entry-at
     put-entry-at-requires

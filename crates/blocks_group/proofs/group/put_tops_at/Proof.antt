@@ -5,12 +5,12 @@ use mathlib.Core.Logic.{⊎-elim}
 use Prim.Native.Nat.{_-_, ℕ}
 use native.Mathlib.Omega.{arith}
 use lib.ListN.{length, take}
-use Rattle.block_records.proofs.ArrayLaws.{Splicing, splice-after, splice-before, splice-end, splice-here, splice-start, take-within}
-use Rattle.block_records.proofs.LoopLaws.{length-mapped}
-use Rattle.block_records.specs.Arrays.{Splices, spliced}
-use Rattle.block_records.specs.Lists.{padded}
-use Rattle.block_records.specs.Zeros.{zero-tops}
-use Rattle.blocks_group.specs.GroupArrays.{listed-count}
+use Rattle.block_records.proofs.arrays.ArrayLaws.{Splicing, splice-after, splice-before, splice-end, splice-here, splice-start, take-within}
+use Rattle.block_records.proofs.arrays.LoopLaws.{length-mapped}
+use Rattle.block_records.specs.arrays.Arrays.{Splices, spliced}
+use Rattle.block_records.specs.rules.Lists.{padded}
+use Rattle.block_records.specs.layout.Zeros.{zero-tops}
+use Rattle.block_records.specs.arrays.Place.{listed-count}
 use borrow.Author.Needs.{needs}
 use Rattle.blocks_group.proofs.group.put_tops_at.Statement.{statement}
 use Rattle.blocks_group.proofs.group.put_tops_at.Tie as tie
@@ -24,7 +24,7 @@ abbrev μ-loop : tie.MeasureT-loop
 len : (c : tie.Start Inv-loop μ-loop) → length (c .args .t1) ≡ 16
 len c = search (needs, length-mapped)
 
-room : (c : tie.Start Inv-loop μ-loop) (k : ℕ) → k ≡ listed-count (c .args .listed) → Splices 16 (c .args .at) (c .args .from) k
+room : (c : tie.Start Inv-loop μ-loop) (k : ℕ) → k ≡ listed-count (c .args .listed) 16 → Splices 16 (c .args .at) (c .args .from) k
 room s k e = splice-start 16 zero-tops (s .args .at) (s .args .from) (s .args .new) (s .args .t1) (s .args .listed) (s .pre) (len s) k e .split
 
 zero-tops-requires : tie.Need-zero-tops-requires Inv-loop μ-loop

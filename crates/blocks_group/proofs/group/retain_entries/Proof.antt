@@ -1,9 +1,9 @@
 -- The flagged entries are those that stay.
 -- Assumes nothing.
 use mathlib.Core.Path.{_∙_, ap}
-use Rattle.block_records.specs.Arrays.{flagged}
-use Rattle.blocks_group.specs.GroupArrays.{with-records}
-use Rattle.blocks_group.proofs.GroupStepLaws.{retain-entries-by-flags}
+use Rattle.block_records.specs.arrays.Arrays.{flagged}
+use Rattle.blocks_group.specs.arrays.Group.{with-records}
+use Rattle.blocks_group.proofs.arrays.GroupStepLaws.{retain-entries-by-flags}
 use borrow.Author.Needs.{needs}
 use Rattle.blocks_group.proofs.group.retain_entries.Statement.{statement}
 use Rattle.blocks_group.proofs.group.retain_entries.Tie as tie

@@ -2,12 +2,12 @@
 -- Assumes nothing.
 use mathlib.Core.Path.{_∙_, _≡_, ap}
 use lib.ListN.{length}
-use Rattle.block_records.proofs.LoopLaws.{length-mapped}
-use Rattle.block_records.specs.Arrays.{flagged}
-use Rattle.block_records.specs.Lists.{padded}
-use Rattle.block_records.specs.Zeros.{zero-tops}
-use Rattle.blocks_group.specs.GroupArrays.{with-records}
-use Rattle.blocks_group.proofs.GroupStepLaws.{retain-entries-by-flags, retain-masters-by-flags}
+use Rattle.block_records.proofs.arrays.LoopLaws.{length-mapped}
+use Rattle.block_records.specs.arrays.Arrays.{flagged}
+use Rattle.block_records.specs.rules.Lists.{padded}
+use Rattle.block_records.specs.layout.Zeros.{zero-tops}
+use Rattle.blocks_group.specs.arrays.Group.{with-records}
+use Rattle.blocks_group.proofs.arrays.GroupStepLaws.{retain-entries-by-flags, retain-masters-by-flags}
 use borrow.Author.Needs.{needs}
 use Rattle.blocks_group.proofs.group.retain_masters.Statement.{statement}
 use Rattle.blocks_group.proofs.group.retain_masters.Tie as tie

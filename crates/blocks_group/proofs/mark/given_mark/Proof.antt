@@ -4,8 +4,8 @@ use borrow.Author.Needs.{needs}
 use mathlib.Core.Path.{_≡_}
 use Prim.Native.Nat.{_<_, _≤_, ℕ}
 use borrow.Author.Tests.{le-leb, lt-leb}
-use Rattle.blocks_group.specs.GroupRules.{given-mark}
-use Rattle.blocks_group.specs.GroupLayout.{pack-mark, view-mark}
+use Rattle.blocks_group.specs.rules.Group.{given-mark}
+use Rattle.blocks_group.specs.layout.Group.{pack-mark, view-mark}
 use Rattle.blocks_group.specs.declared.mark.Mark.{Mark}
 use Rattle.blocks_group.specs.declared.mark.Mark.the-variants.{Absent as no-mark, At as mark-at}
 use Rattle.blocks_group.proofs.mark.given_mark.Statement.{statement}

@@ -4,10 +4,10 @@ use mathlib.Core.Path.{_≡_}
 use Prim.Native.Nat.{ℕ}
 use lib.Dec.{leb}
 use borrow.Author.Needs.{needs}
-use Rattle.block_records.proofs.Tests.{on}
-use Rattle.block_records.specs.Lists.{present}
-use Rattle.blocks_group.specs.GroupRules.{given-mark}
-use Rattle.blocks_group.specs.GroupLayout.{view-mark}
+use Rattle.block_records.proofs.rules.Tests.{on}
+use Rattle.block_records.specs.rules.Lists.{present}
+use Rattle.blocks_group.specs.rules.Group.{given-mark}
+use Rattle.blocks_group.specs.layout.Group.{view-mark}
 use Rattle.blocks_group.specs.declared.mark.Mark.{Mark}
 use Rattle.blocks_group.specs.declared.mark.Mark.the-variants.{At as mark-at}
 use Rattle.blocks_group.proofs.mark.known_synced.Statement.{statement}

@@ -1,7 +1,7 @@
 -- By the boundary.
 -- Assumes nothing.
 use mathlib.Core.Path.{_∙_, _≡_}
-use Rattle.blocks_group.proofs.QueryStepLaws.{collected-at}
+use Rattle.blocks_group.proofs.arrays.QueryStepLaws.{collected-at}
 use borrow.Author.Needs.{needs}
 use Rattle.blocks_group.proofs.queries.collect_group.Statement.{statement}
 use Rattle.blocks_group.proofs.queries.collect_group.Tie as tie

@@ -4,11 +4,11 @@ use mathlib.Core.Path.{_∙_, _≡_, ap, sym}
 use Prim.Native.Nat.{_<_}
 use lib.ListN.{length}
 use Rattle.block_records.specs.declared.entry.MasterBlock.{MasterBlock}
-use Rattle.block_records.specs.Zeros.{zero-entry, zero-tops}
-use Rattle.block_records.proofs.LoopLaws.{length-mapped}
-use Rattle.blocks_group.specs.declared.search.Found.the-variants.{At as found-at}
-use Rattle.blocks_group.specs.GroupQueries.{first-applied-place}
-use Rattle.blocks_group.proofs.QueryStepLaws.{applied-found, applied-place, applied-vacant}
+use Rattle.block_records.specs.layout.Zeros.{zero-entry, zero-tops}
+use Rattle.block_records.proofs.arrays.LoopLaws.{length-mapped}
+use Rattle.block_records.specs.declared.place.Place.the-variants.{At as place-at, Vacant as vacant-at}
+use Rattle.blocks_group.specs.arrays.Queries.{first-applied-place}
+use Rattle.blocks_group.proofs.arrays.QueryStepLaws.{applied-found, applied-place, applied-vacant}
 use borrow.Author.Needs.{needs}
 use Rattle.blocks_group.proofs.queries.first_applied_master.Statement.{statement}
 use Rattle.blocks_group.proofs.queries.first_applied_master.Tie as tie
@@ -19,7 +19,7 @@ len c = search (needs, length-mapped)
 len-tops : (c : tie.Start) → length (c .args .masters .tops) ≡ 16
 len-tops c = search (needs, length-mapped)
 
-at : (c : tie.After-known-told) → first-applied-place (c .before .before .before .before .args .from) (c .before .before .before .before .args .masters .group) ≡ found-at (c .before .found .given .0 .0)
+at : (c : tie.After-known-told) → first-applied-place (c .before .before .before .before .args .from) (c .before .before .before .before .args .masters .group) ≡ place-at (c .before .found .given .0 .0)
 at c = sym (c .before .before .before .first-applied-place .ensures) ∙ c .before .found .given .1
 
 small : (c : tie.After-known-told) → c .before .found .given .0 .0 < 16
@@ -47,7 +47,7 @@ returns-2 : tie.Need-returns-2
 returns-2 c =
     let s = c .before .before .before .before .before in
     let k = c .before .before .found .given .0 .0 in
-    ap (λ (b : MasterBlock). record { found = found-at k; block = b }) (c .master-in-place .ensures)
+    ap (λ (b : MasterBlock). record { found = place-at k; block = b }) (c .master-in-place .ensures)
     ∙ applied-found (s .args .from) (s .args .masters) (len s) (len-tops s) k (at (c .before)) zero-entry zero-tops
 
 pub first-applied-master-spec : {M : Type 1} → statement M

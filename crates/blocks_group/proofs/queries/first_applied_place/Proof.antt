@@ -5,15 +5,16 @@ use mathlib.Core.Path.{_≡_, sym, _∙_}
 use native.Mathlib.Nat.{sub-zero}
 use native.Mathlib.Omega.{arith}
 use lib.ListN.{length, take}
-use Rattle.block_records.proofs.LoopLaws.{left, length-mapped}
-use Rattle.blocks_group.specs.GroupQueries.{first-place, record-applied-from}
-use Rattle.blocks_group.proofs.QueryStepLaws.{first-found, first-next, first-over, first-passed}
+use Rattle.block_records.proofs.arrays.LoopLaws.{left, length-mapped}
+use Rattle.block_records.specs.arrays.Place.{first-place}
+use Rattle.blocks_group.specs.arrays.Queries.{held-applied-from}
+use Rattle.blocks_group.proofs.arrays.QueryStepLaws.{first-found, first-next, first-over, first-passed}
 use borrow.Author.Needs.{needs}
 use Rattle.blocks_group.proofs.queries.first_applied_place.Statement.{statement}
 use Rattle.blocks_group.proofs.queries.first_applied_place.Tie as tie
 
 abbrev Inv-loop : tie.InvT-loop
-Inv-loop from group count i₀ i = (i ≤ 16) × (first-place (record-applied-from from) 0 (take count (group .entries)) ≡ first-place (record-applied-from from) i (left (group .entries) count i))
+Inv-loop from group count i₀ i = (i ≤ 16) × (first-place (held-applied-from from) 0 (take count (group .entries)) ≡ first-place (held-applied-from from) i (left (group .entries) count i))
 
 abbrev μ-loop : tie.MeasureT-loop
 μ-loop from group count i₀ i = 16 - i
@@ -28,16 +29,16 @@ returns : tie.Need-returns Inv-loop μ-loop
 returns c =
     let h = c .before .before in
     let s = h .before in
-    sym (h .loop .inv .1 ∙ first-passed (record-applied-from (s .args .from)) (s .args .t1 .entries) _ _ (c .if1 .taken))
+    sym (h .loop .inv .1 ∙ first-passed (held-applied-from (s .args .from)) (s .args .t1 .entries) _ _ (c .if1 .taken))
 
-mul-is-applied-from : tie.Need-mul-is-applied-from Inv-loop μ-loop
-mul-is-applied-from c = search needs
+mul-held-applied-from : tie.Need-mul-held-applied-from Inv-loop μ-loop
+mul-held-applied-from c = search needs
 
-element-copy-out-is-applied-from : tie.Need-element-copy-out-is-applied-from Inv-loop μ-loop
-element-copy-out-is-applied-from c = search needs
+element-copy-out-held-applied-from : tie.Need-element-copy-out-held-applied-from Inv-loop μ-loop
+element-copy-out-held-applied-from c = search needs
 
-is-applied-from-requires : tie.Need-is-applied-from-requires Inv-loop μ-loop
-is-applied-from-requires c κs = search needs
+held-applied-from-requires : tie.Need-held-applied-from-requires Inv-loop μ-loop
+held-applied-from-requires c κs = search needs
 
 returns-2 : tie.Need-returns-2 Inv-loop μ-loop
 returns-2 c =
@@ -47,7 +48,7 @@ returns-2 c =
     let s = h .before in
     let n = len s in
     let l = u .before .loop-test .taken in
-    sym (h .loop .inv .1 ∙ first-found (record-applied-from (s .args .from)) (s .args .t1 .entries) _ _ _ (omega arith) (u .if1 .left) (sym (v .is-applied-from .ensures) ∙ c .if2 .taken))
+    sym (h .loop .inv .1 ∙ first-found (held-applied-from (s .args .from)) (s .args .t1 .entries) _ _ _ (omega arith) (u .if1 .left) (sym (v .held-applied-from .ensures) ∙ c .if2 .taken))
 
 add-i : tie.Need-add-i Inv-loop μ-loop
 add-i c = search needs
@@ -63,7 +64,7 @@ loop-again c =
     let s = h .before in
     let n = len s in
     let l = u .before .loop-test .taken in
-    (search needs, h .loop .inv .1 ∙ first-next (record-applied-from (s .args .from)) (s .args .t1 .entries) _ _ _ (omega arith) (u .if1 .left) (sym (v .is-applied-from .ensures) ∙ c .if2 .left))
+    (search needs, h .loop .inv .1 ∙ first-next (held-applied-from (s .args .from)) (s .args .t1 .entries) _ _ _ (omega arith) (u .if1 .left) (sym (v .held-applied-from .ensures) ∙ c .if2 .left))
 
 returns-3 : tie.Need-returns-3 Inv-loop μ-loop
 returns-3 c =
@@ -71,7 +72,7 @@ returns-3 c =
     let s = h .before in
     let n = len s in
     let l = c .loop-test .left in
-    sym (h .loop .inv .1 ∙ first-over (record-applied-from (s .args .from)) (s .args .t1 .entries) _ (h .loop .i) (omega arith))
+    sym (h .loop .inv .1 ∙ first-over (held-applied-from (s .args .from)) (s .args .t1 .entries) _ (h .loop .i) (omega arith))
 
 pub first-applied-place-spec : {M : Type 1} → statement M
-first-applied-place-spec = tie.close (tie.spec Inv-loop μ-loop loop-holds returns mul-is-applied-from element-copy-out-is-applied-from is-applied-from-requires returns-2 add-i loop-less loop-again returns-3)
+first-applied-place-spec = tie.close (tie.spec Inv-loop μ-loop loop-holds returns mul-held-applied-from element-copy-out-held-applied-from held-applied-from-requires returns-2 add-i loop-less loop-again returns-3)

@@ -2,8 +2,8 @@
 -- Assumes nothing.
 use mathlib.Core.Path.{_≡_}
 use borrow.Author.Tests.{le-ltb, lt-ltb}
-use Rattle.blocks_group.specs.GroupQueries.{higher-of}
-use Rattle.blocks_group.proofs.QueryStepLaws.{best-chosen, best-first, best-kept, higher-new, higher-old}
+use Rattle.blocks_group.specs.arrays.Queries.{higher-of}
+use Rattle.blocks_group.proofs.arrays.QueryStepLaws.{best-chosen, best-first, best-kept, higher-new, higher-old}
 use borrow.Author.Needs.{needs}
 use Rattle.blocks_group.proofs.queries.higher_below.Statement.{statement}
 use Rattle.blocks_group.proofs.queries.higher_below.Tie as tie

@@ -1,7 +1,7 @@
 -- By the boundary.
 -- Assumes nothing.
 use mathlib.Core.Path.{_∙_, _≡_}
-use Rattle.blocks_group.proofs.QueryStepLaws.{highest-at, highest-none}
+use Rattle.blocks_group.proofs.arrays.QueryStepLaws.{highest-at, highest-none}
 use borrow.Author.Needs.{needs}
 use Rattle.blocks_group.proofs.queries.highest_below_boundary.Statement.{statement}
 use Rattle.blocks_group.proofs.queries.highest_below_boundary.Tie as tie

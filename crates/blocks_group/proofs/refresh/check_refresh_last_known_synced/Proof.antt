@@ -49,7 +49,7 @@ use denote.Exit.{yes}
 use Rattle.blocks_group.specs.declared.mark.Mark.{Mark}
 use Rattle.blocks_group.specs.declared.group.Group.{Group}
 use Rattle.blocks_group.specs.declared.mark.CheckedMark.{CheckedMark}
-use Rattle.blocks_group.specs.GroupLayout.{checked-mark}
+use Rattle.blocks_group.specs.layout.Group.{check-mark as checked-mark}
 use Rattle.blocks_group.proofs.group.Group as G
 use Rattle.blocks_group.proofs.group.Group.Laws as G′
 use Rattle.blocks_group.proofs.mark.Mark as K

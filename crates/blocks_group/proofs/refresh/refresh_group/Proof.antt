@@ -43,8 +43,8 @@ use denote.Triple.Clauses.{ensured, lasts}
 use denote.Exit.{yes}
 use Rattle.blocks_group.specs.declared.mark.Mark.{Mark}
 use Rattle.blocks_group.specs.declared.group.Group.{Group}
-use Rattle.blocks_group.specs.GroupLayout.{checked-mark}
-use Rattle.blocks_group.specs.GroupStores.{refresh-group as refreshed-group}
+use Rattle.blocks_group.specs.layout.Group.{check-mark}
+use Rattle.blocks_group.specs.arrays.Store.{refresh-group as refreshed-group}
 use Rattle.blocks_group.proofs.mark.Mark as K
 use Rattle.blocks_group.proofs.mark.Mark.Laws as K′
 use Rattle.blocks_group.proofs.group.Group as G
@@ -123,7 +123,7 @@ module _ {M : Type 1} (𝓤 : URA M) (H : Heap 𝓤) (A : Atoms 𝓤) (W : Given
 
   -- what is known of the callee's result and of the group that comes back
   abbrev Said : Mark → Group → Type 0
-  Said k h = (k ≡ checked-mark s (g .mark) .given) × (h ≡ refreshed-group s g)
+  Said k h = (k ≡ check-mark s (g .mark) .given) × (h ≡ refreshed-group s g)
 
   abbrev Good : Left → Type 0
   Good r = Said (r .0) (r .1) × (Is K.the-row (r .0) (mark-val (r .0) ∷ []) × Is G.the-row (r .1) (group-val (r .1) ∷ []))

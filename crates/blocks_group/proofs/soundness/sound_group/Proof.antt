@@ -7,14 +7,14 @@ use native.Mathlib.Nat.{sub-zero}
 use native.Mathlib.Omega.{arith}
 use borrow.Author.Tests.{not-true, not-false}
 use lib.ListN.{length}
-use Rattle.block_records.specs.Zeros.{is-zero-entry}
-use Rattle.block_records.proofs.LoopLaws.{length-mapped}
-use Rattle.blocks_group.specs.GroupArrays.{record-seqno}
-use Rattle.blocks_group.specs.GroupLayout.{sound-group}
-use Rattle.blocks_group.specs.GroupParts.{record-sound}
-use Rattle.blocks_group.specs.GroupSoundness.{of-shard}
-use Rattle.blocks_group.proofs.GroupLoopLaws.{walk, walk-falls, walk-next, walk-not-zero, walk-over, walk-stop, walk-zero, walked}
-use Rattle.blocks_group.proofs.SoundGroupLaws.{sound-by-walk, unsound-boundary, unsound-count}
+use Rattle.block_records.specs.layout.Zeros.{is-zero-entry}
+use Rattle.block_records.proofs.arrays.LoopLaws.{length-mapped}
+use Rattle.blocks_group.specs.arrays.Group.{held-seqno}
+use Rattle.blocks_group.specs.layout.Group.{sound-group}
+use Rattle.blocks_group.specs.arrays.Soundness.{sound-entry}
+use Rattle.blocks_group.specs.rules.Soundness.{of-shard}
+use Rattle.blocks_group.proofs.arrays.LoopLaws.{walk, walk-falls, walk-next, walk-not-zero, walk-over, walk-stop, walk-zero, walked}
+use Rattle.blocks_group.proofs.arrays.SoundnessLaws.{sound-by-walk, unsound-boundary, unsound-count}
 use borrow.Author.Needs.{needs}
 use Rattle.blocks_group.proofs.soundness.sound_group.Statement.{statement}
 use Rattle.blocks_group.proofs.soundness.sound_group.Tie as tie
@@ -22,7 +22,7 @@ use Rattle.blocks_group.proofs.soundness.sound_group.Tie as tie
 abbrev Inv-loop : tie.InvT-loop
 Inv-loop shard group count last₀ i₀ last i =
     (i ≤ 16)
-    × (walked (record-sound (of-shard shard)) is-zero-entry record-seqno count true 0 (group .entries) ≡ walk (record-sound (of-shard shard)) is-zero-entry record-seqno (group .entries) count i last)
+    × (walked (sound-entry (of-shard shard)) is-zero-entry held-seqno count true 0 (group .entries) ≡ walk (sound-entry (of-shard shard)) is-zero-entry held-seqno (group .entries) count i last)
 
 abbrev μ-loop : tie.MeasureT-loop
 μ-loop shard group count last₀ i₀ last i = 16 - i
@@ -32,7 +32,7 @@ len c = search (needs, length-mapped)
 
 -- after the count and the boundary
 whole : (c : tie.Else2 Inv-loop μ-loop) → sound-group (of-shard (c .before .before .before .args .shard)) (c .before .before .before .args .t1)
-    ≡ walked (record-sound (of-shard (c .before .before .before .args .shard))) is-zero-entry record-seqno (c .before .before .before .args .t1 .count) true 0 (c .before .before .before .args .t1 .entries)
+    ≡ walked (sound-entry (of-shard (c .before .before .before .args .shard))) is-zero-entry held-seqno (c .before .before .before .args .t1 .count) true 0 (c .before .before .before .args .t1 .entries)
 whole c =
     let s = c .before .before .before in
     sound-by-walk (of-shard (s .args .shard)) (s .args .t1) (len s) (c .before .before .if1 .left)
@@ -70,7 +70,7 @@ returns-3 c =
     let s = h .before .before .before .before in
     let n = len s in
     let l = u .before .before .loop-test .taken in
-    sym (whole (h .before) ∙ h .loop .inv .1 ∙ walk-not-zero (record-sound (of-shard (s .args .shard))) is-zero-entry record-seqno (s .args .t1 .entries) _ _ _ _ (omega arith) (u .if3 .taken) (sym (v .is-zero-entry .ensures) ∙ not-true (v .is-zero-entry .result) (c .if4 .taken)))
+    sym (whole (h .before) ∙ h .loop .inv .1 ∙ walk-not-zero (sound-entry (of-shard (s .args .shard))) is-zero-entry held-seqno (s .args .t1 .entries) _ _ _ _ (omega arith) (u .if3 .taken) (sym (v .is-zero-entry .ensures) ∙ not-true (v .is-zero-entry .result) (c .if4 .taken)))
 
 add-i : tie.Need-add-i Inv-loop μ-loop
 add-i c = search needs
@@ -86,10 +86,10 @@ loop-again c =
     let s = h .before .before .before .before in
     let n = len s in
     let l = u .before .before .loop-test .taken in
-    (search needs, h .loop .inv .1 ∙ walk-zero (record-sound (of-shard (s .args .shard))) is-zero-entry record-seqno (s .args .t1 .entries) _ _ _ _ (omega arith) (u .if3 .taken) (sym (v .is-zero-entry .ensures) ∙ not-false (v .is-zero-entry .result) (c .if4 .left)))
+    (search needs, h .loop .inv .1 ∙ walk-zero (sound-entry (of-shard (s .args .shard))) is-zero-entry held-seqno (s .args .t1 .entries) _ _ _ _ (omega arith) (u .if3 .taken) (sym (v .is-zero-entry .ensures) ∙ not-false (v .is-zero-entry .result) (c .if4 .left)))
 
-entry-sound-requires : tie.Need-entry-sound-requires Inv-loop μ-loop
-entry-sound-requires c κs = search needs
+sound-entry-requires : tie.Need-sound-entry-requires Inv-loop μ-loop
+sound-entry-requires c κs = search needs
 
 returns-4 : tie.Need-returns-4 Inv-loop μ-loop
 returns-4 c =
@@ -99,7 +99,7 @@ returns-4 c =
     let s = h .before .before .before .before in
     let n = len s in
     let l = u .before .before .loop-test .taken in
-    sym (whole (h .before) ∙ h .loop .inv .1 ∙ walk-stop (record-sound (of-shard (s .args .shard))) is-zero-entry record-seqno (s .args .t1 .entries) _ _ _ _ (omega arith) (u .if3 .left) (sym (v .entry-sound .ensures) ∙ not-true (v .entry-sound .result) (c .if5 .taken)))
+    sym (whole (h .before) ∙ h .loop .inv .1 ∙ walk-stop (sound-entry (of-shard (s .args .shard))) is-zero-entry held-seqno (s .args .t1 .entries) _ _ _ _ (omega arith) (u .if3 .left) (sym (v .sound-entry .ensures) ∙ not-true (v .sound-entry .result) (c .if5 .taken)))
 
 returns-5 : tie.Need-returns-5 Inv-loop μ-loop
 returns-5 c =
@@ -110,7 +110,7 @@ returns-5 c =
     let s = h .before .before .before .before in
     let n = len s in
     let l = u .before .before .loop-test .taken in
-    sym (whole (h .before) ∙ h .loop .inv .1 ∙ walk-falls (record-sound (of-shard (s .args .shard))) is-zero-entry record-seqno (s .args .t1 .entries) _ _ _ _ (omega arith) (u .if3 .left) (sym (v .entry-sound .ensures) ∙ not-false (v .entry-sound .result) (w .if5 .left)) (c .if6 .taken))
+    sym (whole (h .before) ∙ h .loop .inv .1 ∙ walk-falls (sound-entry (of-shard (s .args .shard))) is-zero-entry held-seqno (s .args .t1 .entries) _ _ _ _ (omega arith) (u .if3 .left) (sym (v .sound-entry .ensures) ∙ not-false (v .sound-entry .result) (w .if5 .left)) (c .if6 .taken))
 
 add-i-2 : tie.Need-add-i-2 Inv-loop μ-loop
 add-i-2 c = search needs
@@ -127,7 +127,7 @@ loop-again-2 c =
     let s = h .before .before .before .before in
     let n = len s in
     let l = u .before .before .loop-test .taken in
-    (search needs, h .loop .inv .1 ∙ walk-next (record-sound (of-shard (s .args .shard))) is-zero-entry record-seqno (s .args .t1 .entries) _ _ _ _ (omega arith) (u .if3 .left) (sym (v .entry-sound .ensures) ∙ not-false (v .entry-sound .result) (w .if5 .left)) (c .if6 .left))
+    (search needs, h .loop .inv .1 ∙ walk-next (sound-entry (of-shard (s .args .shard))) is-zero-entry held-seqno (s .args .t1 .entries) _ _ _ _ (omega arith) (u .if3 .left) (sym (v .sound-entry .ensures) ∙ not-false (v .sound-entry .result) (w .if5 .left)) (c .if6 .left))
 
 returns-6 : tie.Need-returns-6 Inv-loop μ-loop
 returns-6 c =
@@ -135,7 +135,7 @@ returns-6 c =
     let s = h .before .before .before .before in
     let n = len s in
     let l = c .loop-test .left in
-    sym (whole (h .before) ∙ h .loop .inv .1 ∙ walk-over (record-sound (of-shard (s .args .shard))) is-zero-entry record-seqno (s .args .t1 .entries) _ (h .loop .i) _ (omega arith))
+    sym (whole (h .before) ∙ h .loop .inv .1 ∙ walk-over (sound-entry (of-shard (s .args .shard))) is-zero-entry held-seqno (s .args .t1 .entries) _ (h .loop .i) _ (omega arith))
 
 pub sound-group-spec : {M : Type 1} → statement M
-sound-group-spec = tie.close (tie.spec Inv-loop μ-loop returns boundary-in-shard-requires returns-2 loop-holds mul-entry element-copy-out-entry is-zero-entry-requires returns-3 add-i loop-less loop-again entry-sound-requires returns-4 returns-5 add-i-2 loop-less-2 loop-again-2 returns-6)
+sound-group-spec = tie.close (tie.spec Inv-loop μ-loop returns boundary-in-shard-requires returns-2 loop-holds mul-entry element-copy-out-entry is-zero-entry-requires returns-3 add-i loop-less loop-again sound-entry-requires returns-4 returns-5 add-i-2 loop-less-2 loop-again-2 returns-6)

@@ -1,6 +1,6 @@
 -- Each branch is a case of the definition.
 -- Assumes nothing.
-use Rattle.blocks_group.proofs.StoreStepLaws.{collated-kind-master, collated-kind-shard}
+use Rattle.blocks_group.proofs.arrays.StoreStepLaws.{collated-kind-master, collated-kind-shard}
 use borrow.Author.Needs.{needs}
 use Rattle.blocks_group.proofs.store.collated_kind.Statement.{statement}
 use Rattle.blocks_group.proofs.store.collated_kind.Tie as tie

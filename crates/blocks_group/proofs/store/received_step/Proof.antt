@@ -2,7 +2,7 @@
 -- Assumes nothing.
 use mathlib.Core.Path.{_∙_, sym}
 use borrow.Author.Tests.{not-false, not-true}
-use Rattle.blocks_group.proofs.StoreStepLaws.{received-again, received-fresh, received-full, received-other, received-same}
+use Rattle.blocks_group.proofs.arrays.StoreStepLaws.{received-again, received-fresh, received-full, received-other, received-same}
 use borrow.Author.Needs.{needs}
 use Rattle.blocks_group.proofs.store.received_step.Statement.{statement}
 use Rattle.blocks_group.proofs.store.received_step.Tie as tie
@@ -28,14 +28,14 @@ refused-step-requires c κs = search needs
 returns-2 : tie.Need-returns-2
 returns-2 c = c .refused-step .ensures ∙ received-full (c .before .before .before .before .args .zerostate) (c .before .before .before .before .args .r) (c .before .before .before .before .args .room) (c .before .before .before .before .args .found) (c .before .before .before .before .args .block) _ (c .before .before .enum-told2 .given .1) (c .before .if1 .left)
 
-is-received-requires : tie.Need-is-received-requires
-is-received-requires c κs = search needs
+held-received-requires : tie.Need-held-received-requires
+held-received-requires c κs = search needs
 
 refused-step-requires-2 : tie.Need-refused-step-requires-2
 refused-step-requires-2 c κs = search needs
 
 returns-3 : tie.Need-returns-3
-returns-3 c = c .refused-step2 .ensures ∙ received-again (c .before .before .before .before .before .args .zerostate) (c .before .before .before .before .before .args .r) (c .before .before .before .before .before .args .room) (c .before .before .before .before .before .args .found) (c .before .before .before .before .before .args .block) _ (c .before .before .before .enum-told .given .1) (sym (c .before .before .is-received .ensures) ∙ c .before .if2 .taken)
+returns-3 c = c .refused-step2 .ensures ∙ received-again (c .before .before .before .before .before .args .zerostate) (c .before .before .before .before .before .args .r) (c .before .before .before .before .before .args .room) (c .before .before .before .before .before .args .found) (c .before .before .before .before .before .args .block) _ (c .before .before .before .enum-told .given .1) (sym (c .before .before .held-received .ensures) ∙ c .before .if2 .taken)
 
 same-id-requires : tie.Need-same-id-requires
 same-id-requires c κs = search needs
@@ -47,7 +47,7 @@ stored-step-requires-2 : tie.Need-stored-step-requires-2
 stored-step-requires-2 c κs = search needs
 
 returns-4 : tie.Need-returns-4
-returns-4 c = c .stored-step2 .ensures ∙ received-other (c .before .before .before .before .before .before .before .before .args .zerostate) (c .before .before .before .before .before .before .before .before .args .r) (c .before .before .before .before .before .before .before .before .args .room) (c .before .before .before .before .before .before .before .before .args .found) (c .before .before .before .before .before .before .before .before .args .block) _ (c .before .before .before .before .before .before .enum-told .given .1) (sym (c .before .before .before .before .before .is-received .ensures) ∙ c .before .before .before .before .if2 .left) _ (sym (c .before .before .before .same-id .ensures) ∙ not-true (c .before .before .before .same-id .result) (c .before .before .if3 .taken)) (c .before .fresh-received-master2 .ensures)
+returns-4 c = c .stored-step2 .ensures ∙ received-other (c .before .before .before .before .before .before .before .before .args .zerostate) (c .before .before .before .before .before .before .before .before .args .r) (c .before .before .before .before .before .before .before .before .args .room) (c .before .before .before .before .before .before .before .before .args .found) (c .before .before .before .before .before .before .before .before .args .block) _ (c .before .before .before .before .before .before .enum-told .given .1) (sym (c .before .before .before .before .before .held-received .ensures) ∙ c .before .before .before .before .if2 .left) _ (sym (c .before .before .before .same-id .ensures) ∙ not-true (c .before .before .before .same-id .result) (c .before .before .if3 .taken)) (c .before .fresh-received-master2 .ensures)
 
 received-kind-requires : tie.Need-received-kind-requires
 received-kind-requires c κs = search needs
@@ -59,7 +59,7 @@ stored-step-requires-3 : tie.Need-stored-step-requires-3
 stored-step-requires-3 c κs = search needs
 
 returns-5 : tie.Need-returns-5
-returns-5 c = c .stored-step3 .ensures ∙ received-same (c .before .before .before .before .before .before .before .before .before .before .args .zerostate) (c .before .before .before .before .before .before .before .before .before .before .args .r) (c .before .before .before .before .before .before .before .before .before .before .args .room) (c .before .before .before .before .before .before .before .before .before .before .args .found) (c .before .before .before .before .before .before .before .before .before .before .args .block) _ (c .before .before .before .before .before .before .before .before .enum-told .given .1) (sym (c .before .before .before .before .before .before .before .is-received .ensures) ∙ c .before .before .before .before .before .before .if2 .left) _ _ (sym (c .before .before .before .before .before .same-id .ensures) ∙ not-false (c .before .before .before .before .before .same-id .result) (c .before .before .before .before .if3 .left)) (c .before .before .received-kind .ensures) (c .before .with-block-data .ensures)
+returns-5 c = c .stored-step3 .ensures ∙ received-same (c .before .before .before .before .before .before .before .before .before .before .args .zerostate) (c .before .before .before .before .before .before .before .before .before .before .args .r) (c .before .before .before .before .before .before .before .before .before .before .args .room) (c .before .before .before .before .before .before .before .before .before .before .args .found) (c .before .before .before .before .before .before .before .before .before .before .args .block) _ (c .before .before .before .before .before .before .before .before .enum-told .given .1) (sym (c .before .before .before .before .before .before .before .held-received .ensures) ∙ c .before .before .before .before .before .before .if2 .left) _ _ (sym (c .before .before .before .before .before .same-id .ensures) ∙ not-false (c .before .before .before .before .before .same-id .result) (c .before .before .before .before .if3 .left)) (c .before .before .received-kind .ensures) (c .before .with-block-data .ensures)
 
 pub received-step-spec : {M : Type 1} → statement M
 received-step-spec =
@@ -72,7 +72,7 @@ received-step-spec =
     returns
     refused-step-requires
     returns-2
-    is-received-requires
+    held-received-requires
     refused-step-requires-2
     returns-3
     same-id-requires

@@ -3,12 +3,12 @@
 use mathlib.Core.Path.{_∙_, _≡_, ap, refl}
 use lib.Dec.{ltb}
 use Rattle.block_records.specs.declared.entry.MasterBlock.{MasterBlock}
-use Rattle.block_records.specs.Zeros.{zero-tops}
-use Rattle.blocks_group.specs.GroupArrays.{when-found}
-use Rattle.blocks_group.specs.GroupStores.{collated-step, pack-step}
+use Rattle.block_records.specs.layout.Zeros.{zero-tops}
+use Rattle.blocks_group.specs.arrays.Group.{when-found}
+use Rattle.blocks_group.specs.arrays.Store.{collated-step, pack-step}
 use lib.ListN.{length}
-use Rattle.block_records.proofs.LoopLaws.{length-mapped}
-use Rattle.blocks_group.proofs.StoreStepLaws.{collated-block-kept, collated-block-put}
+use Rattle.block_records.proofs.arrays.LoopLaws.{length-mapped}
+use Rattle.blocks_group.proofs.arrays.StoreStepLaws.{collated-block-kept, collated-block-put}
 use borrow.Author.Needs.{needs}
 use Rattle.blocks_group.proofs.store.store_collated_block.Statement.{statement}
 use Rattle.blocks_group.proofs.store.store_collated_block.Tie as tie
@@ -19,8 +19,8 @@ len c = search (needs, length-mapped)
 entry-at-requires : tie.Need-entry-at-requires
 entry-at-requires c κs = search needs
 
-shard-block-requires : tie.Need-shard-block-requires
-shard-block-requires c κs = search needs
+without-tops-requires : tie.Need-without-tops-requires
+without-tops-requires c κs = search needs
 
 collated-step-requires : tie.Need-collated-step-requires
 collated-step-requires c κs = search needs
@@ -35,7 +35,7 @@ is-step : (c : tie.After-collated-step) →
 is-step c =
     let s = c .before .before .before .before in
     c .collated-step .ensures
-    ∙ ap (λ (b : MasterBlock). pack-step b (collated-step (s .args .c) (ltb (s .args .group .count) 16) (when-found (c .before .before .before .entry-at .result .found) b))) (c .before .before .shard-block .ensures)
+    ∙ ap (λ (b : MasterBlock). pack-step b (collated-step (s .args .c) (ltb (s .args .group .count) 16) (when-found (c .before .before .before .entry-at .result .found) b))) (c .before .before .without-tops .ensures)
 
 returns : tie.Need-returns
 returns c =
@@ -56,7 +56,7 @@ store-collated-block-spec =
     tie.close
     (tie.spec
     entry-at-requires
-    shard-block-requires
+    without-tops-requires
     collated-step-requires
     put-entry-requires
     returns

@@ -2,8 +2,8 @@
 -- Assumes nothing.
 use mathlib.Core.Path.{_∙_, _≡_, sym}
 use lib.ListN.{length}
-use Rattle.block_records.proofs.LoopLaws.{length-mapped}
-use Rattle.blocks_group.proofs.StoreStepLaws.{collated-master-kept, collated-master-put}
+use Rattle.block_records.proofs.arrays.LoopLaws.{length-mapped}
+use Rattle.blocks_group.proofs.arrays.StoreStepLaws.{collated-master-kept, collated-master-put}
 use borrow.Author.Needs.{needs}
 use Rattle.blocks_group.proofs.store.store_collated_master.Statement.{statement}
 use Rattle.blocks_group.proofs.store.store_collated_master.Tie as tie

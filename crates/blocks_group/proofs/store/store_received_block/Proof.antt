@@ -3,12 +3,12 @@
 use mathlib.Core.Path.{_∙_, _≡_, ap, refl, sym}
 use lib.Dec.{ltb}
 use Rattle.block_records.specs.declared.entry.MasterBlock.{MasterBlock}
-use Rattle.block_records.specs.Zeros.{zero-tops}
-use Rattle.blocks_group.specs.GroupArrays.{when-found}
-use Rattle.blocks_group.specs.GroupStores.{pack-step, received-step}
+use Rattle.block_records.specs.layout.Zeros.{zero-tops}
+use Rattle.blocks_group.specs.arrays.Group.{when-found}
+use Rattle.blocks_group.specs.arrays.Store.{pack-step, received-step}
 use lib.ListN.{length}
-use Rattle.block_records.proofs.LoopLaws.{length-mapped}
-use Rattle.blocks_group.proofs.StoreStepLaws.{received-block-kept, received-block-put, received-block-synced}
+use Rattle.block_records.proofs.arrays.LoopLaws.{length-mapped}
+use Rattle.blocks_group.proofs.arrays.StoreStepLaws.{received-block-kept, received-block-put, received-block-synced}
 use borrow.Author.Needs.{needs}
 use Rattle.blocks_group.proofs.store.store_received_block.Statement.{statement}
 use Rattle.blocks_group.proofs.store.store_received_block.Tie as tie
@@ -16,17 +16,17 @@ use Rattle.blocks_group.proofs.store.store_received_block.Tie as tie
 len : (c : tie.Start) → length (c .args .group .entries) ≡ 16
 len c = search (needs, length-mapped)
 
-synced-in-requires : tie.Need-synced-in-requires
-synced-in-requires c κs = search needs
+group-synced-requires : tie.Need-group-synced-requires
+group-synced-requires c κs = search needs
 
 returns : tie.Need-returns
-returns c = received-block-synced (c .before .before .args .zerostate) (c .before .before .args .r) (c .before .before .args .group) (sym (c .before .synced-in .ensures) ∙ c .if1 .taken)
+returns c = received-block-synced (c .before .before .args .zerostate) (c .before .before .args .r) (c .before .before .args .group) (sym (c .before .group-synced .ensures) ∙ c .if1 .taken)
 
 entry-at-requires : tie.Need-entry-at-requires
 entry-at-requires c κs = search needs
 
-shard-block-requires : tie.Need-shard-block-requires
-shard-block-requires c κs = search needs
+without-tops-requires : tie.Need-without-tops-requires
+without-tops-requires c κs = search needs
 
 received-step-requires : tie.Need-received-step-requires
 received-step-requires c κs = search needs
@@ -45,30 +45,30 @@ is-step : (c : tie.After-received-step) →
 is-step c =
     let s = c .before .before .before .before .before .before in
     c .received-step .ensures
-    ∙ ap (λ (b : MasterBlock). pack-step b (received-step (s .args .zerostate) (s .args .r) (ltb (s .args .group .count) 16) (when-found (c .before .before .before .entry-at .result .found) b))) (c .before .before .shard-block .ensures)
+    ∙ ap (λ (b : MasterBlock). pack-step b (received-step (s .args .zerostate) (s .args .r) (ltb (s .args .group .count) 16) (when-found (c .before .before .before .entry-at .result .found) b))) (c .before .before .without-tops .ensures)
 
 returns-2 : tie.Need-returns-2
 returns-2 c =
     let m = c .before .before .before in
     let a = m .before .before .before in
     let s = a .before .before .before in
-    received-block-put (s .args .zerostate) (s .args .r) (s .args .group) (sym (a .before .before .synced-in .ensures) ∙ a .before .if1 .left) (len s) (a .entry-at .result) (a .entry-at .ensures) zero-tops refl (m .received-step .result) (is-step m) (c .before .before .if2 .taken) _ _ (c .before .put-entry .ensures) (c .refresh-group .ensures)
+    received-block-put (s .args .zerostate) (s .args .r) (s .args .group) (sym (a .before .before .group-synced .ensures) ∙ a .before .if1 .left) (len s) (a .entry-at .result) (a .entry-at .ensures) zero-tops refl (m .received-step .result) (is-step m) (c .before .before .if2 .taken) _ _ (c .before .put-entry .ensures) (c .refresh-group .ensures)
 
 returns-3 : tie.Need-returns-3
 returns-3 c =
     let m = c .before in
     let a = m .before .before .before in
     let s = a .before .before .before in
-    received-block-kept (s .args .zerostate) (s .args .r) (s .args .group) (sym (a .before .before .synced-in .ensures) ∙ a .before .if1 .left) (len s) (a .entry-at .result) (a .entry-at .ensures) zero-tops refl (m .received-step .result) (is-step m) (c .if2 .left)
+    received-block-kept (s .args .zerostate) (s .args .r) (s .args .group) (sym (a .before .before .group-synced .ensures) ∙ a .before .if1 .left) (len s) (a .entry-at .result) (a .entry-at .ensures) zero-tops refl (m .received-step .result) (is-step m) (c .if2 .left)
 
 pub store-received-block-spec : {M : Type 1} → statement M
 store-received-block-spec =
     tie.close
     (tie.spec
-    synced-in-requires
+    group-synced-requires
     returns
     entry-at-requires
-    shard-block-requires
+    without-tops-requires
     received-step-requires
     put-entry-requires
     refresh-group-requires

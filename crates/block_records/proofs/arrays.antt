@@ -1,0 +1,4 @@
+pub mod LoopLaws
+pub mod ArrayLaws
+pub mod ScanLaws
+pub mod PlaceLaws

@@ -1,0 +1,4 @@
+pub mod EqualityLaws
+pub mod EntryLaws
+pub mod TidyLaws
+pub mod QuestionLaws

@@ -1,0 +1,4 @@
+pub mod Equality
+pub mod Zeros
+pub mod Entry
+pub mod Questions

@@ -1,0 +1,17 @@
+pub mod MasterDataLaws
+pub mod ShardsLaws
+pub mod StoresLaws
+pub mod CollatedStoreLaws
+pub mod ReceivedStoreLaws
+pub mod ValidationLaws
+pub mod CollectionLaws
+pub mod ExtractionLaws
+pub mod CachedSeqnoLaws
+pub mod LookupLaws
+pub mod PeekLaws
+pub mod ExtractionRun
+pub mod SubgraphsLaws
+pub mod LentSliceLaws
+pub mod TailRowLaws
+pub mod TailWalkLaws
+pub mod TailIdsLaws

@@ -1,0 +1,12 @@
+pub mod Cache
+pub mod MasterData
+pub mod Shards
+pub mod Stores
+pub mod Validation
+pub mod Lookup
+pub mod Extraction
+pub mod Peek
+pub mod Collection
+pub mod LentSlices
+pub mod Subgraphs
+pub mod TailIds

@@ -1,0 +1,12 @@
+pub mod Model
+pub mod Calls
+pub mod Extraction
+pub mod TailIds
+pub mod TailIdsOnce
+pub mod Refusals
+pub mod Effects
+pub mod Marked
+pub mod Claim
+pub mod CaseCalls
+pub mod Cases
+pub mod Edges
