@@ -93,7 +93,7 @@ fn tops_fit(tops: TopBlocks) -> bool
 }
 
 // Question 2 of a record's id, reference seqno, previous ids and top items.
-pub fn seqnos_fit(id: BlockId, reference: u32, prev: PrevIds, tops: TopBlocks) -> bool
+fn seqnos_fit(id: BlockId, reference: u32, prev: PrevIds, tops: TopBlocks) -> bool
     ensures { λ r. ⌜ r ≡ seqnos-fit id reference (listed-prev-ids prev) (listed-tops tops) ⌝ }
 {
     let i = id_fits(id);
@@ -104,7 +104,7 @@ pub fn seqnos_fit(id: BlockId, reference: u32, prev: PrevIds, tops: TopBlocks) -
 }
 
 // Question 2 of keys.
-pub fn keys_fit(given: Keys) -> bool
+fn keys_fit(given: Keys) -> bool
     ensures { λ r. ⌜ r ≡ keys-fit (listed-keys given) ⌝ }
 {
     let keys = given.keys;
@@ -126,7 +126,7 @@ pub fn keys_fit(given: Keys) -> bool
 // ===== question 3: do lists fit, and has a shard block no top item? =====
 
 // Question 3 of a record's id and the counts of its previous ids and top items.
-pub fn counts_fit(id: BlockId, previous: usize, tops: usize) -> bool
+fn counts_fit(id: BlockId, previous: usize, tops: usize) -> bool
     ensures { λ r. ⌜ r ≡ counts-fit id previous tops ⌝ }
 {
     let p = previous <= PREV_IDS_LIMIT;
@@ -198,7 +198,7 @@ fn tops_outside(tops: TopBlocks) -> bool
 }
 
 // Question 4 of a record's id, previous ids and top items.
-pub fn links_fit(id: BlockId, prev: PrevIds, tops: TopBlocks) -> bool
+fn links_fit(id: BlockId, prev: PrevIds, tops: TopBlocks) -> bool
     ensures { λ r. ⌜ r ≡ links-fit id (listed-prev-ids prev) (listed-tops tops) ⌝ }
 {
     let p = prev_links_fit(id, prev);
@@ -209,7 +209,7 @@ pub fn links_fit(id: BlockId, prev: PrevIds, tops: TopBlocks) -> bool
 // ===== in the order asked =====
 
 // The first of questions 2 to 4 whose answer is no.
-pub fn record_refusal(id: BlockId, reference: u32, prev: PrevIds, tops: TopBlocks) -> Refusal
+fn record_refusal(id: BlockId, reference: u32, prev: PrevIds, tops: TopBlocks) -> Refusal
     ensures { λ r. ⌜ r ≡ record-refusal id reference prev tops ⌝ }
 {
     if !seqnos_fit(id, reference, prev, tops) {

@@ -147,13 +147,11 @@ fn held_collect(cache: Cache) -> Cache
     let data = drop_collected(cache.data, highest);
     let shards = cache.shards;
     let collected = collect_shards(shards, cache.shard_count);
-    Cache {
-        zerostate_mc_seqno: cache.zerostate_mc_seqno,
-        masters: kept,
-        data,
-        shards: collected,
-        shard_count: cache.shard_count,
-    }
+    let mut out = cache;
+    out.masters = kept;
+    out.data = data;
+    out.shards = collected;
+    out
 }
 
 pub fn gc_prev_blocks(cache: Cache) -> CacheChange
@@ -221,14 +219,14 @@ fn remove_all(cache: Cache, given: Keys) -> Cache
     out
 }
 
-pub fn remove_next_collated_blocks_from_cache(cache: Cache, to_blocks_keys: Keys) -> CacheChange
-    ensures { λ r. ⌜ change-outcome r ≡ call-on cache (unlent (remove-next-collated «to_blocks_keys»)) ⌝ }
+pub fn remove_next_collated_blocks_from_cache(cache: Cache, after_blocks_keys: Keys) -> CacheChange
+    ensures { λ r. ⌜ change-outcome r ≡ call-on cache (unlent (remove-next-collated «after_blocks_keys»)) ⌝ }
 {
-    let answer = keys_answer(cache, to_blocks_keys);
+    let answer = keys_answer(cache, after_blocks_keys);
     let ChangeAnswer::Done = answer else {
         return CacheChange { answer, cache };
     };
-    let left = remove_all(cache, to_blocks_keys);
+    let left = remove_all(cache, after_blocks_keys);
     CacheChange {
         answer: ChangeAnswer::Done,
         cache: left,

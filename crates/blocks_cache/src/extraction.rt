@@ -7,9 +7,10 @@ ghost use Rattle.block_records.specs.layout.Entry.{pack-tops};
 ghost use Rattle.block_records.specs.layout.Zeros.{zero-entry};
 ghost use Rattle.block_records.specs.rules.Lists.{padded};
 ghost use Rattle.blocks_cache.specs.arrays.Extraction.{backwards, compact-group, compact-shard, compact-shards, held-starting-ids, held-starting-items, pack-extraction, pack-waiting, refresh-seqnos, view-master, without-seqno};
-ghost use Rattle.blocks_cache.specs.arrays.Subgraphs.{hand-out, move-applied-start, no-extract, plain-extract, pop-plain, request-seqno, sync-plain};
+ghost use Rattle.blocks_cache.specs.arrays.Subgraphs.{ExtractsWithBlocks, PacksEffect, hand-out, move-applied-start, no-extract, request-seqno};
 ghost use Rattle.blocks_cache.specs.layout.Cache.{sound-cache, view};
 ghost use Rattle.blocks_group.specs.rules.Group.{at-seqno};
+ghost use Rattle.cache_rules.specs.Effects.{pop-entry, sync-entry};
 ghost use Rattle.cache_rules.specs.Extraction.{extraction-of};
 ghost use Rattle.cache_rules.specs.Model.{first-applied};
 use crate::cache::Cache;
@@ -319,13 +320,10 @@ fn hand_out(
         range,
     };
     let shards = extraction.shards;
-    let left = Cache {
-        zerostate_mc_seqno: cache.zerostate_mc_seqno,
-        masters,
-        data,
-        shards,
-        shard_count: cache.shard_count,
-    };
+    let mut left = cache;
+    left.masters = masters;
+    left.data = data;
+    left.shards = shards;
     let extract = SubgraphExtract {
         answer,
         master,
@@ -340,7 +338,7 @@ fn hand_out(
 // Pop: the lowest applied master at or above a seqno leaves, and the start moves by it.
 fn pop_with_blocks(cache: Cache, from: u32) -> ExtractWithBlocks
     requires { ⌜ sound-cache cache ≡ true ⌝ }
-    ensures { λ r. ⌜ r ≡ pop-plain (first-applied from (view cache)) (view cache) ⌝ }
+    ensures { λ r. ⌜ PacksEffect (pop-entry (first-applied from (view cache)) (view cache)) r ⌝ }
 {
     let first = first_applied_master(cache.masters, from);
     let found = first.found;
@@ -372,7 +370,7 @@ fn move_applied_start(range: AppliedRange, master: MasterBlock) -> AppliedRange
 // Sync extraction: the master at a seqno leaves; if it is applied the start moves; the mark's rule is used.
 fn sync_with_blocks(cache: Cache, seqno: u32) -> ExtractWithBlocks
     requires { ⌜ sound-cache cache ≡ true ⌝ }
-    ensures { λ r. ⌜ r ≡ sync-plain (at-seqno seqno (view cache .masters .entries)) (view cache) ⌝ }
+    ensures { λ r. ⌜ PacksEffect (sync-entry (at-seqno seqno (view cache .masters .entries)) (view cache)) r ⌝ }
 {
     let there = master_at(cache.masters, seqno);
     let found = there.found;
@@ -405,7 +403,7 @@ pub(crate) fn extract_with_blocks(
     request: ExtractRequest,
     places: usize,
 ) -> ExtractWithBlocks
-    ensures { λ r. ⌜ r ≡ plain-extract cache request places ⌝ }
+    ensures { λ r. ⌜ ExtractsWithBlocks cache request places r ⌝ }
 {
     if !sound_cache(cache) {
         let answer = ExtractAnswer::Refused(1);

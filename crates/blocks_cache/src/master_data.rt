@@ -47,7 +47,7 @@ pub enum RetainedIds {
 // ===== the applied range =====
 
 // Moving the start by a seqno. There is a next seqno wherever it is taken: the seqno is below the end.
-pub fn moved_start(seqno: u32, range: AppliedRange) -> AppliedRange
+pub(crate) fn moved_start(seqno: u32, range: AppliedRange) -> AppliedRange
     ensures { λ r. ⌜ r ≡ pack-range (moved-start seqno (view-range range)) ⌝ }
 {
     match range {
@@ -67,7 +67,7 @@ pub fn moved_start(seqno: u32, range: AppliedRange) -> AppliedRange
 }
 
 // Moving the end.
-pub fn moved_end(seqno: u32, range: AppliedRange) -> AppliedRange
+pub(crate) fn moved_end(seqno: u32, range: AppliedRange) -> AppliedRange
     ensures { λ r. ⌜ r ≡ pack-range (moved-end seqno (view-range range)) ⌝ }
 {
     match range {
@@ -77,7 +77,7 @@ pub fn moved_end(seqno: u32, range: AppliedRange) -> AppliedRange
 }
 
 // Range absent or start <= end <= present master mark.
-pub fn sound_range(mark: Mark, range: AppliedRange) -> bool
+pub(crate) fn sound_range(mark: Mark, range: AppliedRange) -> bool
     ensures { λ r. ⌜ r ≡ sound-range (view-mark mark) (view-range range) ⌝ }
 {
     match range {
@@ -92,7 +92,7 @@ pub fn sound_range(mark: Mark, range: AppliedRange) -> bool
 // ===== the last collated ids =====
 
 // The highest last collated id.
-pub fn highest_id(data: MasterData) -> LastId
+pub(crate) fn highest_id(data: MasterData) -> LastId
     ensures { λ r. ⌜ r ≡ highest-id «data» ⌝ }
 {
     let count = listed_count(data.count, IDS_LIMIT);
@@ -105,7 +105,7 @@ pub fn highest_id(data: MasterData) -> LastId
 }
 
 // Whether a seqno is among the last collated ids.
-pub fn has_id(data: MasterData, seqno: u32) -> bool
+fn has_id(data: MasterData, seqno: u32) -> bool
     ensures { λ r. ⌜ r ≡ has-id seqno «data» ⌝ }
 {
     let count = listed_count(data.count, IDS_LIMIT);
@@ -120,7 +120,7 @@ pub fn has_id(data: MasterData, seqno: u32) -> bool
 }
 
 // Question 9: is the seqno among the last collated ids, or are there under 32?
-pub fn has_place_for_id(data: MasterData, seqno: u32) -> bool
+pub(crate) fn has_place_for_id(data: MasterData, seqno: u32) -> bool
     ensures { λ r. ⌜ r ≡ has-place-for-id seqno «data» ⌝ }
 {
     let listed = has_id(data, seqno);
@@ -172,7 +172,7 @@ fn put_id_at(data: MasterData, at: usize, from: usize, id: BlockId) -> MasterDat
 }
 
 // The id put in by seqno; one of the same seqno is replaced. Where 32 are listed and none is of the seqno, nothing changes.
-pub fn put_id(data: MasterData, id: BlockId) -> MasterData
+pub(crate) fn put_id(data: MasterData, id: BlockId) -> MasterData
     ensures { λ r. ⌜ r ≡ put-id id «data» ⌝ }
 {
     let place = id_place(data, id.seqno);
@@ -219,7 +219,7 @@ fn retain_ids(data: MasterData, rule: RetainedIds) -> MasterData
 }
 
 // Ids below a seqno go.
-pub fn drop_ids_below(data: MasterData, seqno: u32) -> MasterData
+pub(crate) fn drop_ids_below(data: MasterData, seqno: u32) -> MasterData
     ensures { λ r. ⌜ r ≡ drop-ids-below seqno «data» ⌝ }
 {
     let rule = RetainedIds::From(seqno);
@@ -227,7 +227,7 @@ pub fn drop_ids_below(data: MasterData, seqno: u32) -> MasterData
 }
 
 // Ids from a seqno on go.
-pub fn drop_ids_from(data: MasterData, seqno: u32) -> MasterData
+pub(crate) fn drop_ids_from(data: MasterData, seqno: u32) -> MasterData
     ensures { λ r. ⌜ r ≡ drop-ids-from seqno «data» ⌝ }
 {
     let rule = RetainedIds::Below(seqno);
@@ -284,7 +284,7 @@ fn ids_masterchain(data: MasterData) -> bool
 }
 
 // Whether the count is within its places, zeros stand beyond it, the seqnos rise and all ids are masterchain.
-pub fn sound_ids(data: MasterData) -> bool
+pub(crate) fn sound_ids(data: MasterData) -> bool
     ensures { λ r. ⌜ r ≡ sound-ids «data» ⌝ }
 {
     let few = data.count <= IDS_LIMIT;

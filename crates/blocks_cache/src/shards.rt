@@ -59,7 +59,11 @@ pub(crate) fn ident_place(
 }
 
 // Where a shard's group stands, or the place where it would go in. For one search: a loop gathers the shards and asks `ident_place`.
-pub fn shard_place(groups: [ShardGroup; SHARDS_LIMIT], count: usize, shard: ShardIdent) -> Place
+pub(crate) fn shard_place(
+    groups: [ShardGroup; SHARDS_LIMIT],
+    count: usize,
+    shard: ShardIdent,
+) -> Place
     ensures { λ r. ⌜ r ≡ shard-place shard count groups ⌝ }
 {
     let listed = listed_count(count, SHARDS_LIMIT);
@@ -102,7 +106,11 @@ fn insert_shard(
 }
 
 // The group put in by shard; one of the same shard is replaced. Where 8 are listed and none is of the shard, nothing changes.
-pub fn put_shard(groups: [ShardGroup; SHARDS_LIMIT], count: usize, group: ShardGroup) -> Shards
+pub(crate) fn put_shard(
+    groups: [ShardGroup; SHARDS_LIMIT],
+    count: usize,
+    group: ShardGroup,
+) -> Shards
     ensures { λ r. ⌜ r ≡ put-shard group count groups ⌝ }
 {
     let place = shard_place(groups, count, group.shard);

@@ -90,14 +90,10 @@ fn stored_in(cache: Cache, answer: StoreAnswer) -> BlockCacheStoreResult
 fn with_masters_and_data(cache: Cache, masters: MasterGroup, data: MasterData) -> Cache
     ensures { λ r. ⌜ r ≡ with-masters-and-data masters «data» cache ⌝ }
 {
-    let shards = cache.shards;
-    Cache {
-        zerostate_mc_seqno: cache.zerostate_mc_seqno,
-        masters,
-        data,
-        shards,
-        shard_count: cache.shard_count,
-    }
+    let mut out = cache;
+    out.masters = masters;
+    out.data = data;
+    out
 }
 
 // The group of a shard put in, and master data.
@@ -107,14 +103,11 @@ fn with_shard_group(cache: Cache, group: ShardGroup, data: MasterData) -> Cache
     let groups = cache.shards;
     let put = put_shard(groups, cache.shard_count, group);
     let shards = put.groups;
-    let masters = cache.masters;
-    Cache {
-        zerostate_mc_seqno: cache.zerostate_mc_seqno,
-        masters,
-        data,
-        shards,
-        shard_count: put.count,
-    }
+    let mut out = cache;
+    out.data = data;
+    out.shards = shards;
+    out.shard_count = put.count;
+    out
 }
 
 // The group of a shard, an empty one where there is none; for a new shard there is room under 8 groups.

@@ -1,8 +1,8 @@
 // Document 01, Whole cache: blocks go to the front of a lent slice of records; the rest is untouched.
 ghost use mathlib.Core.Path.{_≡_};
-ghost use Prim.Native.Nat.{_+_, _≤_, min};
+ghost use Prim.Native.Nat.{_+_, _≤_};
 ghost use lib.ListN.{drop, length, take};
-ghost use Rattle.blocks_cache.specs.arrays.LentSlices.{filled-at};
+ghost use Rattle.blocks_cache.specs.arrays.LentSlices.{filled-at, lent-places};
 ghost use Rattle.blocks_cache.specs.arrays.Subgraphs.{extract-on, extract-outcome, zeroed-extract};
 ghost use Rattle.blocks_cache.specs.layout.Cache.{call-on};
 ghost use Rattle.cache_rules.specs.Calls.{pop, sync};
@@ -28,7 +28,7 @@ fn fill(out: &mut [BlockCacheEntry], at: usize, blocks: [BlockCacheEntry; SLICE_
 }
 
 // A request's extraction; the blocks go to the front of the lent slice.
-pub fn extract_mc_block_subgraph(
+pub(crate) fn extract_mc_block_subgraph(
     cache: Cache,
     request: ExtractRequest,
     out: &mut [BlockCacheEntry],
@@ -70,7 +70,7 @@ pub struct ArrayExtract {
 
 // How many places of an array are lent: all of them where fewer are there than asked for.
 pub(crate) fn lent_places(lent: usize) -> usize
-    ensures { λ r. ⌜ r ≡ min lent 160 ⌝ }
+    ensures { λ r. ⌜ r ≡ lent-places lent ⌝ }
 {
     if lent < ARRAY_PLACES {
         return lent;
@@ -85,7 +85,7 @@ pub fn pop_to_array(
     blocks: [BlockCacheEntry; ARRAY_PLACES],
     lent: usize,
 ) -> ArrayExtract
-    ensures { λ r. ⌜ (extract-outcome (r .extract) (take (min lent 160) (r .blocks)) ≡ call-on cache (record { request = pop from; lent = take (min lent 160) blocks })) × ((drop (min lent 160) (r .blocks) ≡ drop (min lent 160) blocks) × (r .extract ≡ zeroed-extract (r .extract))) ⌝ }
+    ensures { λ r. ⌜ (extract-outcome (r .extract) (take (lent-places lent) (r .blocks)) ≡ call-on cache (record { request = pop from; lent = take (lent-places lent) blocks })) × ((drop (lent-places lent) (r .blocks) ≡ drop (lent-places lent) blocks) × (r .extract ≡ zeroed-extract (r .extract))) ⌝ }
 {
     let mut out = blocks;
     let n = lent_places(lent);
@@ -103,7 +103,7 @@ pub fn sync_to_array(
     blocks: [BlockCacheEntry; ARRAY_PLACES],
     lent: usize,
 ) -> ArrayExtract
-    ensures { λ r. ⌜ (extract-outcome (r .extract) (take (min lent 160) (r .blocks)) ≡ call-on cache (record { request = sync «block_id»; lent = take (min lent 160) blocks })) × ((drop (min lent 160) (r .blocks) ≡ drop (min lent 160) blocks) × (r .extract ≡ zeroed-extract (r .extract))) ⌝ }
+    ensures { λ r. ⌜ (extract-outcome (r .extract) (take (lent-places lent) (r .blocks)) ≡ call-on cache (record { request = sync «block_id»; lent = take (lent-places lent) blocks })) × ((drop (lent-places lent) (r .blocks) ≡ drop (lent-places lent) blocks) × (r .extract ≡ zeroed-extract (r .extract))) ⌝ }
 {
     let mut out = blocks;
     let n = lent_places(lent);

@@ -122,15 +122,9 @@ fn validated_kind(status: ValidationStatus, data: BlockCacheEntryData) -> Valida
 fn with_master_group(cache: Cache, masters: MasterGroup) -> Cache
     ensures { λ r. ⌜ r ≡ with-master-group masters cache ⌝ }
 {
-    let data = cache.data;
-    let shards = cache.shards;
-    Cache {
-        zerostate_mc_seqno: cache.zerostate_mc_seqno,
-        masters,
-        data,
-        shards,
-        shard_count: cache.shard_count,
-    }
+    let mut out = cache;
+    out.masters = masters;
+    out
 }
 
 // The master entry at the id's seqno; the rest of the id is not looked at.

@@ -80,7 +80,7 @@ pub fn zero_master_group() -> MasterGroup
 }
 
 // Where an entry of this seqno stands, or the place where it would go in.
-pub fn entry_place(group: Group, seqno: u32) -> Place
+fn entry_place(group: Group, seqno: u32) -> Place
     ensures { λ r. ⌜ r ≡ entry-place seqno group ⌝ }
 {
     let count = listed_count(group.count, ENTRIES_LIMIT);
@@ -209,7 +209,7 @@ fn put_master_at(masters: MasterGroup, at: usize, from: usize, block: MasterBloc
 }
 
 // The entry in its place; one of the same seqno is replaced. A full group without that seqno stays as it is.
-pub fn put_entry(group: Group, entry: BlockCacheEntry) -> Group
+pub(crate) fn put_entry(group: Group, entry: BlockCacheEntry) -> Group
     ensures { λ r. ⌜ r ≡ put-entry entry group ⌝ }
 {
     let found = entry_place(group, entry.block_id.seqno);
@@ -314,7 +314,7 @@ fn compact_tops(
 }
 
 // The entries that stay by a rule, moved together.
-pub fn retain_entries(group: Group, rule: Retained) -> Group
+pub(crate) fn retain_entries(group: Group, rule: Retained) -> Group
     ensures { λ r. ⌜ r ≡ retain-entries rule group ⌝ }
 {
     let keep = keep_flags(group, rule);
@@ -322,7 +322,7 @@ pub fn retain_entries(group: Group, rule: Retained) -> Group
 }
 
 // The same of the master group, the top items with their entries.
-pub fn retain_masters(masters: MasterGroup, rule: Retained) -> MasterGroup
+pub(crate) fn retain_masters(masters: MasterGroup, rule: Retained) -> MasterGroup
     ensures { λ r. ⌜ r ≡ retain-masters rule masters ⌝ }
 {
     let keep = keep_flags(masters.group, rule);

@@ -58,7 +58,7 @@ fn given_mark(seqno: u32, mark: Mark) -> Mark
 }
 
 // The mark's rule whole, from mark to mark.
-pub fn check_mark(mark: Mark, seqno: u32) -> CheckedMark
+pub(crate) fn check_mark(mark: Mark, seqno: u32) -> CheckedMark
     ensures { λ r. ⌜ r ≡ check-mark seqno mark ⌝ }
 {
     let given = given_mark(seqno, mark);

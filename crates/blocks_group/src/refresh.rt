@@ -18,7 +18,7 @@ pub fn check_refresh_last_known_synced(group: &mut Group, seqno: u32) -> Mark
 }
 
 // The same with plain parameters, for callers that keep the group to themselves: it is lent from a local.
-pub fn refresh_group(group: Group, seqno: u32) -> Group
+pub(crate) fn refresh_group(group: Group, seqno: u32) -> Group
     ensures { λ r. ⌜ r ≡ refresh-group seqno group ⌝ }
 {
     let mut out = group;

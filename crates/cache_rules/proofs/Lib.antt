@@ -18,3 +18,4 @@ pub mod TailShards
 pub mod TailFifo
 pub mod TailAnswer
 pub mod ClaimProof
+pub mod Theorems

@@ -19,9 +19,9 @@ use Rattle.block_records.specs.rules.Lists.{every, present}
 use Rattle.block_records.specs.rules.Questions.{Question, first-no}
 use Rattle.blocks_group.specs.rules.Group.{GroupModel, at-seqno, given-mark, has-seqno, vacant-or}
 use Rattle.cache_rules.proofs.MarkedLaws.{Marked, bound-marked, collated-marked, collect-marked, found-marked, group-for-marked, marked-parts, peek-marked, pop-marked, received-marks, remove-marked, sync-marked, tails-marked, validate-marked}
-use Rattle.cache_rules.proofs.NeverRefused.{effect-yes, refusal}
+use Rattle.cache_rules.proofs.NeverRefused.{effect-yes}
 use Rattle.cache_rules.proofs.SoundSteps.{all-yes}
-use Rattle.cache_rules.specs.Calls.{Call, Request, collect, peek, pop, read-tail-ids, refused, remove-next-collated, set-boundary, store-collated, store-received, store-validation, sync}
+use Rattle.cache_rules.specs.Calls.{Call, Request, collect, peek, pop, read-tail-ids, refusal, refused, remove-next-collated, set-boundary, store-collated, store-received, store-validation, sync}
 use Rattle.cache_rules.specs.Effects.{after, answered, effect, step}
 use Rattle.cache_rules.specs.Marked.{group-marked, received-marked}
 use Rattle.cache_rules.specs.Model.{Model, empty-model, entry-for, first-applied, group-for}

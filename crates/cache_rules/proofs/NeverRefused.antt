@@ -9,29 +9,15 @@ use lib.ListN.{length}
 use Rattle.block_records.specs.declared.entry.BlockCacheEntryData.{BlockCacheEntryData}
 use Rattle.block_records.proofs.rules.Tests.{clash, on}
 use Rattle.block_records.specs.rules.Entry.{Entry}
-use Rattle.block_records.specs.rules.Lists.{last, present}
+use Rattle.block_records.specs.rules.Lists.{present}
 use Rattle.block_records.specs.rules.Questions.{first-no}
 use Rattle.blocks_group.specs.rules.Group.{at-seqno}
 use Rattle.cache_rules.proofs.CountLaws.{places}
 use Rattle.cache_rules.proofs.SoundSteps.{Yes, all-yes}
-use Rattle.cache_rules.specs.Calls.{Answer, Call, Request, Validation, already-extracted, collect, done, extracted, no-change, nothing, peek, peeked, pop, popped, read-tail-ids, refused, remove-next-collated, set-boundary, store-collated, store-received, store-validation, stored, sync, synced, tail-ids, validated}
+use Rattle.cache_rules.specs.Calls.{Call, Request, Validation, collect, peek, pop, read-tail-ids, refusal, refused, remove-next-collated, set-boundary, store-collated, store-received, store-validation, sync}
 use Rattle.cache_rules.specs.Effects.{effect, peek-entry, pop-entry, step, sync-entry, tail-ids-entry, validate-entry, validate-kind, validated-kind}
 use Rattle.cache_rules.specs.Model.{Model, first-applied}
 use Rattle.cache_rules.specs.Refusals.{further, is-synced, questions}
-
-abbrev pub refusal : Answer → Option ℕ
-refusal (refused n) = some n
-refusal (stored both mismatch i r) = none
-refusal synced = none
-refusal no-change = none
-refusal (validated st) = none
-refusal (popped x last) = none
-refusal (extracted x) = none
-refusal already-extracted = none
-refusal nothing = none
-refusal (peeked row v) = none
-refusal (tail-ids rows) = none
-refusal done = none
 
 validate-kind-yes : (v : Validation) (e : Entry) (o : Option BlockCacheEntryData) (m : Model) → refusal (validate-kind v e o m .answer) ≡ none
 validate-kind-yes v e none m = refl

@@ -92,6 +92,21 @@ handed (peeked row view) = none
 handed (tail-ids rows) = none
 handed done = none
 
+-- the number that an answer refuses with
+abbrev pub refusal : Answer → Option ℕ
+refusal (refused n) = some n
+refusal (stored both mismatch i r) = none
+refusal synced = none
+refusal no-change = none
+refusal (validated st) = none
+refusal (popped x last) = none
+refusal (extracted x) = none
+refusal already-extracted = none
+refusal nothing = none
+refusal (peeked row v) = none
+refusal (tail-ids rows) = none
+refusal done = none
+
 -- what a request that is not refused leaves and answers, and the blocks that it hands out
 pub record Effect : Type 0 where
   pub model : Model

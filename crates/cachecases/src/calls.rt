@@ -2,6 +2,8 @@
 use block_records::block_id::BlockId;
 use block_records::block_id::zero_id;
 use block_records::entry::zero_entry;
+use block_records::limits::ARRAY_PLACES;
+use block_records::limits::SLICE_PLACES;
 use block_records::store_records::Anchor;
 use block_records::store_records::BlockCandidate;
 use block_records::store_records::PrevIds;
@@ -143,10 +145,10 @@ pub fn receive_alone(cache: Cache, id: BlockId) -> BlockCacheStoreResult {
 // With a slice of 128 places.
 pub fn pop(cache: Cache, from: u32) -> ArrayExtract {
     let zero = zero_entry();
-    pop_to_array(cache, from, [zero; 160], 128)
+    pop_to_array(cache, from, [zero; ARRAY_PLACES], SLICE_PLACES)
 }
 
 pub fn sync(cache: Cache, id: BlockId) -> ArrayExtract {
     let zero = zero_entry();
-    sync_to_array(cache, id, [zero; 160], 128)
+    sync_to_array(cache, id, [zero; ARRAY_PLACES], SLICE_PLACES)
 }

@@ -16,6 +16,9 @@ use crate::spell::put_shard;
 use crate::spell::put_status;
 use block_records::entry::BlockCacheEntry;
 use block_records::entry::MasterBlock;
+use block_records::limits::ARRAY_PLACES;
+use block_records::limits::ROWS_LIMIT;
+use block_records::limits::TOPS_LIMIT;
 use block_records::top_block::zero_tops;
 use blocks_cache::cache::NewCacheAnswer;
 use blocks_cache::collection::ChangeAnswer;
@@ -151,10 +154,15 @@ fn put_block(out: &mut [u8], at: usize, block: BlockCacheEntry) -> usize {
 }
 
 // The blocks handed out, from the slice's front.
-fn put_blocks(out: &mut [u8], at: usize, blocks: [BlockCacheEntry; 160], joined: usize) -> usize {
+fn put_blocks(
+    out: &mut [u8],
+    at: usize,
+    blocks: [BlockCacheEntry; ARRAY_PLACES],
+    joined: usize,
+) -> usize {
     let mut to = at;
     let mut i: usize = 0;
-    while i < 160 && i < joined {
+    while i < ARRAY_PLACES && i < joined {
         to = put_block(out, to, blocks[i]);
         i += 1;
     }
@@ -165,7 +173,7 @@ fn put_handed_out(
     out: &mut [u8],
     at: usize,
     extract: SubgraphExtract,
-    blocks: [BlockCacheEntry; 160],
+    blocks: [BlockCacheEntry; ARRAY_PLACES],
 ) -> usize {
     let a = put_subgraph(out, at, extract.master, extract.joined, extract.taken);
     put_blocks(out, a, blocks, extract.joined)
@@ -175,7 +183,7 @@ pub fn put_extract(
     out: &mut [u8],
     at: usize,
     extract: SubgraphExtract,
-    blocks: [BlockCacheEntry; 160],
+    blocks: [BlockCacheEntry; ARRAY_PLACES],
 ) -> usize {
     let answer = extract.answer;
     match answer {
@@ -211,10 +219,10 @@ fn put_missing(out: &mut [u8], at: usize, missing: MissingTop) -> usize {
     }
 }
 
-fn put_peek_tops(out: &mut [u8], at: usize, rows: [PeekRow; 8], count: usize) -> usize {
+fn put_peek_tops(out: &mut [u8], at: usize, rows: [PeekRow; TOPS_LIMIT], count: usize) -> usize {
     let mut to = at;
     let mut i: usize = 0;
-    while i < 8 && i < count {
+    while i < TOPS_LIMIT && i < count {
         to = put_peek_top(out, to, rows[i]);
         i += 1;
     }
@@ -250,10 +258,10 @@ fn put_tail_row(out: &mut [u8], at: usize, row: TailIdsRow) -> usize {
     put(out, f, b'\n')
 }
 
-fn put_tail_rows(out: &mut [u8], at: usize, rows: [TailIdsRow; 17], count: usize) -> usize {
+fn put_tail_rows(out: &mut [u8], at: usize, rows: [TailIdsRow; ROWS_LIMIT], count: usize) -> usize {
     let mut to = at;
     let mut i: usize = 0;
-    while i < 17 && i < count {
+    while i < ROWS_LIMIT && i < count {
         to = put_tail_row(out, to, rows[i]);
         i += 1;
     }

@@ -10,6 +10,9 @@ use crate::spell::put_range;
 use crate::spell::put_shard;
 use block_records::block_id::BlockId;
 use block_records::entry::BlockCacheEntry;
+use block_records::limits::ENTRIES_LIMIT;
+use block_records::limits::IDS_LIMIT;
+use block_records::limits::SHARDS_LIMIT;
 use block_records::top_block::TopBlocks;
 use block_records::top_block::zero_tops;
 use blocks_cache::cache::Cache;
@@ -52,13 +55,13 @@ fn put_masters_line(out: &mut [u8], at: usize, group: Group, range: AppliedRange
 fn put_master_entries(
     out: &mut [u8],
     at: usize,
-    entries: [BlockCacheEntry; 16],
-    tops: [TopBlocks; 16],
+    entries: [BlockCacheEntry; ENTRIES_LIMIT],
+    tops: [TopBlocks; ENTRIES_LIMIT],
     count: usize,
 ) -> usize {
     let mut to = at;
     let mut i: usize = 0;
-    while i < 16 && i < count {
+    while i < ENTRIES_LIMIT && i < count {
         to = put_entry_line(out, to, entries[i], tops[i]);
         i += 1;
     }
@@ -73,10 +76,10 @@ fn put_masters(out: &mut [u8], at: usize, masters: MasterGroup, range: AppliedRa
     put_master_entries(out, a, entries, tops, group.count)
 }
 
-fn put_last_ids(out: &mut [u8], at: usize, ids: [BlockId; 32], count: usize) -> usize {
+fn put_last_ids(out: &mut [u8], at: usize, ids: [BlockId; IDS_LIMIT], count: usize) -> usize {
     let mut to = at;
     let mut i: usize = 0;
-    while i < 32 && i < count {
+    while i < IDS_LIMIT && i < count {
         to = put_id_line(out, to, ids[i]);
         i += 1;
     }
@@ -87,10 +90,15 @@ fn put_block_entry(out: &mut [u8], at: usize, entry: BlockCacheEntry) -> usize {
     put_entry_line(out, at, entry, zero_tops())
 }
 
-fn put_entries(out: &mut [u8], at: usize, entries: [BlockCacheEntry; 16], count: usize) -> usize {
+fn put_entries(
+    out: &mut [u8],
+    at: usize,
+    entries: [BlockCacheEntry; ENTRIES_LIMIT],
+    count: usize,
+) -> usize {
     let mut to = at;
     let mut i: usize = 0;
-    while i < 16 && i < count {
+    while i < ENTRIES_LIMIT && i < count {
         to = put_block_entry(out, to, entries[i]);
         i += 1;
     }
@@ -109,10 +117,15 @@ fn put_shard_group(out: &mut [u8], at: usize, shard: ShardGroup) -> usize {
     put_entries(out, d, entries, group.count)
 }
 
-fn put_shards(out: &mut [u8], at: usize, shards: [ShardGroup; 8], count: usize) -> usize {
+fn put_shards(
+    out: &mut [u8],
+    at: usize,
+    shards: [ShardGroup; SHARDS_LIMIT],
+    count: usize,
+) -> usize {
     let mut to = at;
     let mut i: usize = 0;
-    while i < 8 && i < count {
+    while i < SHARDS_LIMIT && i < count {
         to = put_shard_group(out, to, shards[i]);
         i += 1;
     }

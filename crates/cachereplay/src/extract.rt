@@ -14,19 +14,20 @@ use crate::times::put_time;
 use crate::times::since;
 use block_records::block_id::BlockId;
 use block_records::entry::BlockCacheEntry;
+use block_records::limits::ARRAY_PLACES;
 use blocks_cache::cache::Cache;
 use blocks_cache::subgraphs::ArrayExtract;
 
 // The places that can be lent, and how many are.
 pub struct Lent {
-    pub blocks: [BlockCacheEntry; 160],
+    pub blocks: [BlockCacheEntry; ARRAY_PLACES],
     pub places: usize,
 }
 
 // The cache and the slice after a line, and where the next byte goes.
 pub struct Extracted {
     pub cache: Cache,
-    pub blocks: [BlockCacheEntry; 160],
+    pub blocks: [BlockCacheEntry; ARRAY_PLACES],
     pub at: usize,
 }
 

@@ -14,7 +14,9 @@ use block_records::block_id::same_shard;
 use block_records::entry::BlockCacheEntry;
 use block_records::entry::held_received;
 use block_records::entry::zero_entry;
+use block_records::limits::ENTRIES_LIMIT;
 use block_records::limits::SHARDS_LIMIT;
+use block_records::limits::TOPS_LIMIT;
 use block_records::place::Place;
 use block_records::top_block::TopBlock;
 use block_records::top_block::TopBlocks;
@@ -167,7 +169,7 @@ fn put_top_edges(
     let items = tops.items;
     let mut to = at;
     let mut i: usize = 0;
-    while i < 8 && i < tops.count {
+    while i < TOPS_LIMIT && i < tops.count {
         to = put_top(cache, out, to, master, items[i]);
         i += 1;
     }
@@ -193,17 +195,22 @@ fn put_masters(cache: Cache, out: &mut [u8], at: usize) -> usize {
     let tops = masters.tops;
     let mut to = at;
     let mut i: usize = 0;
-    while i < 16 && i < group.count {
+    while i < ENTRIES_LIMIT && i < group.count {
         to = put_master(cache, out, to, entries[i], tops[i]);
         i += 1;
     }
     to
 }
 
-fn put_nodes(out: &mut [u8], at: usize, entries: [BlockCacheEntry; 16], count: usize) -> usize {
+fn put_nodes(
+    out: &mut [u8],
+    at: usize,
+    entries: [BlockCacheEntry; ENTRIES_LIMIT],
+    count: usize,
+) -> usize {
     let mut to = at;
     let mut i: usize = 0;
-    while i < 16 && i < count {
+    while i < ENTRIES_LIMIT && i < count {
         to = put_node(out, to, entries[i], false);
         i += 1;
     }
@@ -214,12 +221,12 @@ fn put_all_parents(
     cache: Cache,
     out: &mut [u8],
     at: usize,
-    entries: [BlockCacheEntry; 16],
+    entries: [BlockCacheEntry; ENTRIES_LIMIT],
     count: usize,
 ) -> usize {
     let mut to = at;
     let mut i: usize = 0;
-    while i < 16 && i < count {
+    while i < ENTRIES_LIMIT && i < count {
         to = put_parents(cache, out, to, entries[i]);
         i += 1;
     }
@@ -247,7 +254,7 @@ fn put_groups(cache: Cache, out: &mut [u8], at: usize) -> usize {
     let shards = cache.shards;
     let mut to = at;
     let mut i: usize = 0;
-    while i < 8 && i < cache.shard_count {
+    while i < SHARDS_LIMIT && i < cache.shard_count {
         to = put_group(cache, out, to, shards[i]);
         i += 1;
     }

@@ -30,6 +30,9 @@ use crate::scan::is_good;
 use block_records::block_id::BlockId;
 use block_records::block_id::ShardIdent;
 use block_records::entry::BlockCacheEntry;
+use block_records::limits::ENTRIES_LIMIT;
+use block_records::limits::IDS_LIMIT;
+use block_records::limits::SHARDS_LIMIT;
 use block_records::top_block::TopBlocks;
 use blocks_cache::cache::Cache;
 use blocks_cache::cache::ShardGroup;
@@ -124,7 +127,7 @@ fn with_last_id(cache: Cache, id: BlockId, at: usize) -> Ran {
 pub fn load_id(cache: Cache, line: &[u8], start: Scan, out: &mut [u8], cursor: Cursor) -> Ran {
     let data = cache.data;
     let read = read_id(line, start);
-    let room = fail_unless(read.scan, data.count < 32, expected::ROOM);
+    let room = fail_unless(read.scan, data.count < IDS_LIMIT, expected::ROOM);
     let end = expect_end(line, room, expected::END);
     if !is_good(end) {
         return bad_line(cache, out, cursor, end);
@@ -143,7 +146,7 @@ fn with_new_shard(cache: Cache, shard: ShardIdent, mark: Mark, boundary: Boundar
 pub fn load_shard(cache: Cache, line: &[u8], start: Scan, out: &mut [u8], cursor: Cursor) -> Ran {
     let read = read_shard(line, start);
     let marks = read_marks(line, read.scan);
-    let room = fail_unless(marks.scan, cache.shard_count < 8, expected::ROOM);
+    let room = fail_unless(marks.scan, cache.shard_count < SHARDS_LIMIT, expected::ROOM);
     let end = expect_end(line, room, expected::END);
     if !is_good(end) {
         return bad_line(cache, out, cursor, end);
@@ -190,7 +193,7 @@ pub fn load_entry(
     let tops = read.tops;
     let group = group_at(cache, place);
     let known = fail_unless(read.scan, place <= MASTERS, expected::NO_SHARD);
-    let room = fail_unless(known, group.count < 16, expected::ROOM);
+    let room = fail_unless(known, group.count < ENTRIES_LIMIT, expected::ROOM);
     let bare = fail_unless(room, place == MASTERS || tops.count == 0, expected::NO_TOPS);
     let end = expect_end(line, bare, expected::END);
     if !is_good(end) {

@@ -3,6 +3,9 @@ use block_records::block_id::BlockId;
 use block_records::block_id::zero_id;
 use block_records::block_id::zero_shard;
 use block_records::entry::BlockCacheEntry;
+use block_records::limits::ENTRIES_LIMIT;
+use block_records::limits::IDS_LIMIT;
+use block_records::limits::SHARDS_LIMIT;
 use block_records::top_block::TopBlocks;
 use blocks_cache::cache::Cache;
 use blocks_cache::cache::ShardGroup;
@@ -28,7 +31,7 @@ pub fn zero_shard_group() -> ShardGroup {
 fn zero_data() -> MasterData {
     let zero = zero_id();
     MasterData {
-        ids: [zero; 32],
+        ids: [zero; IDS_LIMIT],
         count: 0,
         range: AppliedRange::Absent,
     }
@@ -40,7 +43,7 @@ pub fn zero_cache() -> Cache {
         zerostate_mc_seqno: 0,
         masters: zero_master_group(),
         data: zero_data(),
-        shards: [group; 8],
+        shards: [group; SHARDS_LIMIT],
         shard_count: 0,
     }
 }
@@ -57,7 +60,7 @@ pub fn with_data(cache: Cache, data: MasterData) -> Cache {
     next
 }
 
-pub fn with_shards(cache: Cache, shards: [ShardGroup; 8]) -> Cache {
+pub fn with_shards(cache: Cache, shards: [ShardGroup; SHARDS_LIMIT]) -> Cache {
     let mut next = cache;
     next.shards = shards;
     next
@@ -66,7 +69,7 @@ pub fn with_shards(cache: Cache, shards: [ShardGroup; 8]) -> Cache {
 // The shard group of a place, 0 to 7; zeros of any other.
 pub fn shard_at(cache: Cache, place: usize) -> ShardGroup {
     let shards = cache.shards;
-    if place < 8 {
+    if place < SHARDS_LIMIT {
         shards[place]
     } else {
         zero_shard_group()
@@ -75,7 +78,7 @@ pub fn shard_at(cache: Cache, place: usize) -> ShardGroup {
 
 pub fn with_shard(cache: Cache, place: usize, group: ShardGroup) -> Cache {
     let mut shards = cache.shards;
-    if place < 8 {
+    if place < SHARDS_LIMIT {
         shards[place] = group;
     }
     with_shards(cache, shards)
@@ -129,7 +132,7 @@ pub fn with_count(group: Group, count: usize) -> Group {
 // The entry of a place, 0 to 15.
 pub fn with_entry(group: Group, place: usize, entry: BlockCacheEntry) -> Group {
     let mut entries = group.entries;
-    if place < 16 {
+    if place < ENTRIES_LIMIT {
         entries[place] = entry;
     }
     let mut next = group;
@@ -141,7 +144,7 @@ pub fn with_entry(group: Group, place: usize, entry: BlockCacheEntry) -> Group {
 pub fn with_tops(cache: Cache, place: usize, tops: TopBlocks) -> Cache {
     let mut masters = cache.masters;
     let mut all = masters.tops;
-    if place < 16 {
+    if place < ENTRIES_LIMIT {
         all[place] = tops;
     }
     masters.tops = all;
@@ -151,7 +154,7 @@ pub fn with_tops(cache: Cache, place: usize, tops: TopBlocks) -> Cache {
 // The last collated id of a place, 0 to 31.
 pub fn with_id(data: MasterData, place: usize, id: BlockId) -> MasterData {
     let mut ids = data.ids;
-    if place < 32 {
+    if place < IDS_LIMIT {
         ids[place] = id;
     }
     let mut next = data;

@@ -48,6 +48,10 @@ use block_records::block_id::is_zero_shard;
 use block_records::block_id::zero_shard;
 use block_records::entry::BlockCacheEntry;
 use block_records::entry::is_zero_entry;
+use block_records::limits::ARRAY_PLACES;
+use block_records::limits::ENTRIES_LIMIT;
+use block_records::limits::IDS_LIMIT;
+use block_records::limits::SHARDS_LIMIT;
 use block_records::top_block::TopBlocks;
 use block_records::top_block::is_zero_tops;
 use block_records::top_block::zero_tops;
@@ -254,24 +258,24 @@ pub fn raw_tops(cache: Cache, line: &[u8], start: Scan, out: &mut [u8], cursor: 
 
 // The places of the slice that is lent, and where the next byte goes.
 pub struct Placed {
-    pub blocks: [BlockCacheEntry; 160],
+    pub blocks: [BlockCacheEntry; ARRAY_PLACES],
     pub at: usize,
 }
 
 fn with_place(
-    blocks: [BlockCacheEntry; 160],
+    blocks: [BlockCacheEntry; ARRAY_PLACES],
     place: usize,
     entry: BlockCacheEntry,
-) -> [BlockCacheEntry; 160] {
+) -> [BlockCacheEntry; ARRAY_PLACES] {
     let mut next = blocks;
-    if place < 160 {
+    if place < ARRAY_PLACES {
         next[place] = entry;
     }
     next
 }
 
 pub fn raw_slice(
-    blocks: [BlockCacheEntry; 160],
+    blocks: [BlockCacheEntry; ARRAY_PLACES],
     line: &[u8],
     start: Scan,
     out: &mut [u8],
@@ -321,10 +325,10 @@ fn put_raw_id(out: &mut [u8], at: usize, place: usize, id: BlockId) -> usize {
     put(out, d, b'\n')
 }
 
-fn put_raw_ids(out: &mut [u8], at: usize, ids: [BlockId; 32]) -> usize {
+fn put_raw_ids(out: &mut [u8], at: usize, ids: [BlockId; IDS_LIMIT]) -> usize {
     let mut to = at;
     let mut i: usize = 0;
-    while i < 32 {
+    while i < IDS_LIMIT {
         to = put_raw_id(out, to, i, ids[i]);
         i += 1;
     }
@@ -361,11 +365,11 @@ fn put_group_entries(
     out: &mut [u8],
     at: usize,
     group: usize,
-    entries: [BlockCacheEntry; 16],
+    entries: [BlockCacheEntry; ENTRIES_LIMIT],
 ) -> usize {
     let mut to = at;
     let mut i: usize = 0;
-    while i < 16 {
+    while i < ENTRIES_LIMIT {
         to = put_group_entry(out, to, group, i, entries[i]);
         i += 1;
     }
@@ -449,10 +453,10 @@ fn put_raw_top(out: &mut [u8], at: usize, place: usize, tops: TopBlocks) -> usiz
     put(out, f, b'\n')
 }
 
-fn put_raw_tops(out: &mut [u8], at: usize, tops: [TopBlocks; 16]) -> usize {
+fn put_raw_tops(out: &mut [u8], at: usize, tops: [TopBlocks; ENTRIES_LIMIT]) -> usize {
     let mut to = at;
     let mut i: usize = 0;
-    while i < 16 {
+    while i < ENTRIES_LIMIT {
         to = put_raw_top(out, to, i, tops[i]);
         i += 1;
     }
@@ -469,10 +473,10 @@ fn put_raw_shard(out: &mut [u8], at: usize, place: usize, shard: ShardGroup) -> 
     put_raw_group(out, at, place, shard.shard, shard.group)
 }
 
-fn put_raw_shards(out: &mut [u8], at: usize, shards: [ShardGroup; 8]) -> usize {
+fn put_raw_shards(out: &mut [u8], at: usize, shards: [ShardGroup; SHARDS_LIMIT]) -> usize {
     let mut to = at;
     let mut i: usize = 0;
-    while i < 8 {
+    while i < SHARDS_LIMIT {
         to = put_raw_shard(out, to, i, shards[i]);
         i += 1;
     }
@@ -511,10 +515,10 @@ fn put_slice_place(out: &mut [u8], at: usize, place: usize, entry: BlockCacheEnt
     put(out, d, b'\n')
 }
 
-pub fn dump_slice(blocks: [BlockCacheEntry; 160], out: &mut [u8], at: usize) -> usize {
+pub fn dump_slice(blocks: [BlockCacheEntry; ARRAY_PLACES], out: &mut [u8], at: usize) -> usize {
     let mut to = at;
     let mut i: usize = 0;
-    while i < 160 {
+    while i < ARRAY_PLACES {
         to = put_slice_place(out, to, i, blocks[i]);
         i += 1;
     }

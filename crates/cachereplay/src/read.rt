@@ -12,6 +12,9 @@ use crate::scan::read_signed;
 use block_records::block_id::BlockId;
 use block_records::block_id::BlockIdShort;
 use block_records::block_id::ShardIdent;
+use block_records::limits::KEYS_LIMIT;
+use block_records::limits::PREV_IDS_LIMIT;
+use block_records::limits::TOPS_LIMIT;
 use block_records::store_records::Anchor;
 use block_records::store_records::Keys;
 use block_records::store_records::PrevIds;
@@ -163,7 +166,7 @@ pub fn read_id(line: &[u8], start: Scan) -> IdRead {
 fn with_prev_id(prev: PrevIds, id: BlockId) -> PrevIds {
     let mut ids = prev.ids;
     let at = prev.count;
-    if at < 2 {
+    if at < PREV_IDS_LIMIT {
         ids[at] = id;
     }
     PrevIds {
@@ -206,7 +209,7 @@ pub fn read_ids(line: &[u8], start: Scan) -> PrevIdsRead {
 fn with_key(given: Keys, short: BlockIdShort) -> Keys {
     let mut keys = given.keys;
     let at = given.count;
-    if at < 9 {
+    if at < KEYS_LIMIT {
         keys[at] = short;
     }
     Keys {
@@ -260,7 +263,7 @@ pub fn read_top(line: &[u8], start: Scan) -> TopRead {
 fn with_top(tops: TopBlocks, top: TopBlock) -> TopBlocks {
     let mut items = tops.items;
     let at = tops.count;
-    if at < 8 {
+    if at < TOPS_LIMIT {
         items[at] = top;
     }
     TopBlocks {

@@ -31,6 +31,7 @@ use crate::scan::is_good;
 use crate::scan::read_number;
 use block_records::entry::BlockCacheEntry;
 use block_records::entry::zero_entry;
+use block_records::limits::ARRAY_PLACES;
 use blocks_cache::cache::Cache;
 use blocks_cache::cache::empty;
 
@@ -55,7 +56,7 @@ pub struct State {
 
 pub struct Replay {
     pub cache: Cache,
-    pub blocks: [BlockCacheEntry; 160],
+    pub blocks: [BlockCacheEntry; ARRAY_PLACES],
     pub state: State,
     pub reader: Reader,
     // the input has ended
@@ -82,7 +83,7 @@ pub fn new_replay() -> Replay {
     };
     Replay {
         cache,
-        blocks: [zero; 160],
+        blocks: [zero; ARRAY_PLACES],
         state,
         reader: new_reader(),
         ended: false,
@@ -303,7 +304,7 @@ fn run_extraction(replay: Replay, code: u8, line: &[u8], out: &mut [u8]) -> Extr
 }
 
 fn run_dump_slice(
-    blocks: [BlockCacheEntry; 160],
+    blocks: [BlockCacheEntry; ARRAY_PLACES],
     state: State,
     line: &[u8],
     out: &mut [u8],
@@ -322,7 +323,7 @@ fn run_dump_slice(
 }
 
 fn run_places(
-    blocks: [BlockCacheEntry; 160],
+    blocks: [BlockCacheEntry; ARRAY_PLACES],
     state: State,
     code: u8,
     line: &[u8],

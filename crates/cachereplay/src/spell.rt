@@ -14,6 +14,8 @@ use block_records::block_id::key_shard;
 use block_records::entry::BlockCacheEntry;
 use block_records::entry::BlockCacheEntryData;
 use block_records::entry::CandidateStatus;
+use block_records::limits::PREV_IDS_LIMIT;
+use block_records::limits::TOPS_LIMIT;
 use block_records::store_records::Anchor;
 use block_records::store_records::PrevIds;
 use block_records::top_block::TopBlock;
@@ -54,7 +56,7 @@ pub fn put_comma(out: &mut [u8], at: usize, item: usize) -> usize {
 }
 
 // Both places of a list of previous ids, whatever its count.
-pub fn put_id_places(out: &mut [u8], at: usize, ids: [BlockId; 2]) -> usize {
+pub fn put_id_places(out: &mut [u8], at: usize, ids: [BlockId; PREV_IDS_LIMIT]) -> usize {
     let a = put_id(out, at, ids[0]);
     let b = put(out, a, b',');
     put_id(out, b, ids[1])
@@ -80,10 +82,15 @@ fn put_top(out: &mut [u8], at: usize, top: TopBlock) -> usize {
 }
 
 // The first places, 8 at most.
-pub fn put_top_places(out: &mut [u8], at: usize, items: [TopBlock; 8], count: usize) -> usize {
+pub fn put_top_places(
+    out: &mut [u8],
+    at: usize,
+    items: [TopBlock; TOPS_LIMIT],
+    count: usize,
+) -> usize {
     let mut to = at;
     let mut i: usize = 0;
-    while i < 8 && i < count {
+    while i < TOPS_LIMIT && i < count {
         to = put_comma(out, to, i);
         to = put_top(out, to, items[i]);
         i += 1;

@@ -25,6 +25,13 @@ pack-prev-ids xs = record { ids = padded prev-ids-limit zero-id xs; count = leng
 abbrev pub pack-tops : List TopBlock → TopBlocks
 pack-tops xs = record { items = padded tops-limit zero-top xs; count = length xs }
 
+-- what is listed, and zeros after it, whatever the caller left there
+abbrev pub stored-prev-ids : PrevIds → PrevIds
+stored-prev-ids p = pack-prev-ids (listed-prev-ids p)
+
+abbrev pub stored-tops : TopBlocks → TopBlocks
+stored-tops t = pack-tops (listed-tops t)
+
 abbrev pub pack-entry : Entry → BlockCacheEntry
 pack-entry e =
     record {

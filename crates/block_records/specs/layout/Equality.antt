@@ -1,4 +1,4 @@
--- Equality of the records, as tests: each decides whether two are one (proofs/SameLaws).
+-- Equality of the records, as tests: each decides whether two are one (proofs/layout/EqualityLaws).
 -- Assumes nothing.
 use mathlib.Core.Bool.{Bool, Bool·beq, _&&_, false, true}
 use lib.Dec.{eqb}

@@ -2,6 +2,7 @@
 -- Assumes nothing.
 use mathlib.Core.Bool.{Bool, _&&_, _||_, false, not, true}
 use mathlib.Core.List.{List, [], _++_, _∷_}
+use mathlib.Core.Logic.{_⊎_}
 use mathlib.Core.Option.{Option, none, some}
 use mathlib.Core.Path.{_∙_, _≡_, ap, ap₂, refl, subst, subst₂, sym}
 use Prim.Native.Nat.{ℕ}
@@ -20,7 +21,7 @@ use Rattle.blocks_group.specs.declared.group.MasterGroup.{MasterGroup}
 use Rattle.blocks_group.specs.declared.store.GroupStore.{GroupStore}
 use Rattle.blocks_group.specs.declared.store.MasterStore.{MasterStore}
 use Rattle.blocks_group.specs.declared.store.StoreAnswer.{StoreAnswer}
-use Rattle.blocks_group.specs.declared.store.StoreAnswer.the-variants.{Refused as refused-answer, Stored as stored-answer}
+use Rattle.blocks_group.specs.declared.store.StoreAnswer.the-variants.{Refused as refused-answer, Stored as stored-answer, Synced as synced-answer}
 use Rattle.block_records.proofs.layout.QuestionLaws.{first-no-append, or-else}
 use Rattle.block_records.proofs.rules.Tests.{absurd-eq, on}
 use Rattle.block_records.specs.rules.BlockId.{id-shard, is-masterchain, same-id}
@@ -28,7 +29,7 @@ use Rattle.block_records.specs.rules.Entry.{Entry, is-received}
 use Rattle.block_records.specs.rules.Lists.{find, pick, present, put}
 use Rattle.block_records.specs.rules.Questions.{Question, ask, candidate-questions, first-no}
 use Rattle.blocks_cache.proofs.arrays.MasterDataLaws.{has-place-for-id-packed, move-start-packed, put-id-packed}
-use Rattle.blocks_cache.proofs.arrays.StoresLaws.{Zeroed, has-room-is, held-packed, master-group-parts, neither, nothing-zeroed, pick-zeroed, shard-group-parts, store-leaves, stored-packed, stored-zeroed, when-zeroed, with-shard-packed}
+use Rattle.blocks_cache.proofs.arrays.StoresLaws.{Zeroed, has-room-is, held-packed, master-group-parts, neither, nothing-zeroed, pick-zeroed, shard-group-parts, store-leaves, stored-packed, stored-zeroed, unstored, with-shard-packed}
 use Rattle.blocks_cache.proofs.layout.CallOnLaws.{on-sound}
 use Rattle.blocks_cache.specs.arrays.MasterData.{has-place-for-id, id-at, put-id}
 use Rattle.blocks_cache.specs.arrays.Stores.{collated-ids, master-candidate-stored, nothing-stored, shard-candidate-in, shard-candidate-stored, shard-held, store-candidate, store-master-candidate, store-outcome, store-shard-candidate, stored-in, with-masters-and-data, with-range, with-shard-group}
@@ -96,19 +97,29 @@ module _ (c : BlockCandidate) (h : Cache) where
   unfolding store-candidate
   candidate-shard t = rw t
 
+-- ===== Synced or refused =====
+
+module _ (tag : StoreAnswer → ℕ) (first : (both mismatch : Bool) → tag (stored-answer both mismatch) ≡ 0) (h : Cache) (a : StoreAnswer) (t : (tag a ≡ 1) ⊎ (tag a ≡ 2)) where
+  pub master-candidate-unstored : (c : BlockCandidate) (g : MasterGroup) → nothing-stored a h ≡ master-candidate-stored c a g h
+  master-candidate-unstored c g = unstored tag first (λ (x : StoreAnswer). master-candidate-stored c x g h) h refl (λ n. refl) a t
+
+  pub shard-candidate-unstored : (g : ShardGroup) → nothing-stored a h ≡ shard-candidate-stored a g h
+  shard-candidate-unstored g = unstored tag first (λ (x : StoreAnswer). shard-candidate-stored x g h) h refl (λ n. refl) a t
+
 -- ===== nothing is left free =====
 
 master-zeroed : (c : BlockCandidate) (a : StoreAnswer) (g : MasterGroup) (h : Cache) → Zeroed (master-candidate-stored c a g h)
-master-zeroed c a g h =
-    when-zeroed a _ h
-    (λ both mismatch e. pick-zeroed mismatch _ _ (stored-zeroed a both mismatch e h)
+master-zeroed c (stored-answer both mismatch) g h =
+    pick-zeroed mismatch _ _ (stored-zeroed both mismatch h)
     (pick-zeroed (has-place-for-id (c .«block_id» .seqno) (h .«data»)) _ _
-    (stored-zeroed a both mismatch e (with-masters-and-data g (collated-ids (c .«block_id») (h .«data»)) h)) (nothing-zeroed (refused-answer 9) h)))
+    (stored-zeroed both mismatch (with-masters-and-data g (collated-ids (c .«block_id») (h .«data»)) h)) (nothing-zeroed (refused-answer 9) h))
+master-zeroed c synced-answer g h = refl
+master-zeroed c (refused-answer n) g h = refl
 
 shard-zeroed : (a : StoreAnswer) (g : ShardGroup) (h : Cache) → Zeroed (shard-candidate-stored a g h)
-shard-zeroed a g h =
-    when-zeroed a _ h
-    (λ both mismatch e. pick-zeroed mismatch _ _ (stored-zeroed a both mismatch e h) (stored-zeroed a both mismatch e (with-shard-group g (h .«data») h)))
+shard-zeroed (stored-answer both mismatch) g h = stored-zeroed both mismatch (pick mismatch h (with-shard-group g (h .«data») h))
+shard-zeroed synced-answer g h = refl
+shard-zeroed (refused-answer n) g h = refl
 
 pub candidate-zeroed : (c : BlockCandidate) (h : Cache) → Zeroed (store-candidate c h)
 unfolding store-candidate store-master-candidate store-shard-candidate

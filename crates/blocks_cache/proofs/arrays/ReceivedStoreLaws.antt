@@ -2,6 +2,7 @@
 -- Assumes nothing.
 use mathlib.Core.Bool.{Bool, _||_, false, not, true}
 use mathlib.Core.List.{List, [], _++_, _∷_}
+use mathlib.Core.Logic.{_⊎_}
 use mathlib.Core.Option.{Option, none, some}
 use mathlib.Core.Path.{_∙_, _≡_, ap, ap₂, refl, subst, sym}
 use Prim.Native.Nat.{_<_, _≤_, ℕ}
@@ -27,7 +28,7 @@ use Rattle.block_records.specs.rules.Entry.{Entry, is-received}
 use Rattle.block_records.specs.rules.Lists.{pick, present}
 use Rattle.block_records.specs.rules.Questions.{Question, ask, first-no, received-questions}
 use Rattle.blocks_cache.proofs.arrays.MasterDataLaws.{drop-ids-from-packed, move-end-packed}
-use Rattle.blocks_cache.proofs.arrays.StoresLaws.{Zeroed, has-room-is, held-packed, master-group-parts, neither, nothing-zeroed, pick-zeroed, shard-group-parts, store-leaves, stored-packed, stored-zeroed, when-zeroed, with-shard-packed}
+use Rattle.blocks_cache.proofs.arrays.StoresLaws.{Zeroed, has-room-is, held-packed, master-group-parts, neither, nothing-zeroed, pick-zeroed, shard-group-parts, store-leaves, stored-packed, stored-zeroed, unstored, with-shard-packed}
 use Rattle.blocks_cache.proofs.layout.CallOnLaws.{on-sound}
 use Rattle.blocks_cache.specs.arrays.Stores.{ids-after, master-receipt-stored, nothing-stored, range-end-moved, shard-held, shard-receipt-in, shard-receipt-stored, store-master-receipt, store-outcome, store-receipt, store-shard-receipt, stored-in, with-masters-and-data, with-range, with-shard-group}
 use Rattle.blocks_cache.specs.layout.Cache.{HeldOutcome, answered-on, pack, pack-outcome, sound-cache, view}
@@ -89,17 +90,28 @@ module _ (r : ReceivedBlock) (h : Cache) where
     unfolding store-receipt
     receipt-shard t = rw (le-leb (h .«zerostate_mc_seqno») (r .«ref_block_id» .seqno) l, t)
 
+-- ===== Synced or refused =====
+
+module _ (tag : StoreAnswer → ℕ) (first : (both mismatch : Bool) → tag (stored-answer both mismatch) ≡ 0) (h : Cache) (a : StoreAnswer) (t : (tag a ≡ 1) ⊎ (tag a ≡ 2)) where
+  pub master-receipt-unstored : (r : ReceivedBlock) (g : MasterGroup) → nothing-stored a h ≡ master-receipt-stored r a g h
+  master-receipt-unstored r g = unstored tag first (λ (x : StoreAnswer). master-receipt-stored r x g h) h refl (λ n. refl) a t
+
+  pub shard-receipt-unstored : (r : ReceivedBlock) (g : ShardGroup) → nothing-stored a h ≡ shard-receipt-stored r a g h
+  shard-receipt-unstored r g = unstored tag first (λ (x : StoreAnswer). shard-receipt-stored r x g h) h refl (λ n. refl) a t
+
 -- ===== nothing is left free =====
 
 master-zeroed : (r : ReceivedBlock) (a : StoreAnswer) (g : MasterGroup) (h : Cache) → Zeroed (master-receipt-stored r a g h)
-master-zeroed r a g h =
-    when-zeroed a _ h
-    (λ both mismatch e. stored-zeroed a both mismatch e
-    (with-masters-and-data g (range-end-moved (r .«block_id» .seqno) (ids-after mismatch (r .«block_id» .seqno) (h .«data»))) h))
+master-zeroed r (stored-answer both mismatch) g h =
+    stored-zeroed both mismatch (with-masters-and-data g (range-end-moved (r .«block_id» .seqno) (ids-after mismatch (r .«block_id» .seqno) (h .«data»))) h)
+master-zeroed r synced-answer g h = refl
+master-zeroed r (refused-answer n) g h = refl
 
 shard-zeroed : (r : ReceivedBlock) (a : StoreAnswer) (g : ShardGroup) (h : Cache) → Zeroed (shard-receipt-stored r a g h)
-shard-zeroed r a g h =
-    when-zeroed a _ h (λ both mismatch e. stored-zeroed a both mismatch e (with-shard-group g (ids-after mismatch (r .«ref_block_id» .seqno) (h .«data»)) h))
+shard-zeroed r (stored-answer both mismatch) g h =
+    stored-zeroed both mismatch (with-shard-group g (ids-after mismatch (r .«ref_block_id» .seqno) (h .«data»)) h)
+shard-zeroed r synced-answer g h = refl
+shard-zeroed r (refused-answer n) g h = refl
 
 pub receipt-zeroed : (r : ReceivedBlock) (h : Cache) → Zeroed (store-receipt r h)
 unfolding store-receipt store-master-receipt store-shard-receipt

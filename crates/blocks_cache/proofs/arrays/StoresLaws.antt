@@ -39,7 +39,7 @@ use Rattle.blocks_cache.proofs.layout.CallLaws.{unsound-answers-1}
 use Rattle.blocks_cache.proofs.layout.CallOnLaws.{first-part-refuses, second-part-decides}
 use Rattle.blocks_cache.specs.arrays.MasterData.{highest-id, listed-ids, pack-last, view-last}
 use Rattle.blocks_cache.specs.arrays.Shards.{shard-place}
-use Rattle.blocks_cache.specs.arrays.Stores.{held-at, nothing-stored, shard-held, store-outcome, stored-in, when-stored, with-shard-group, zeroed-store}
+use Rattle.blocks_cache.specs.arrays.Stores.{held-at, nothing-stored, shard-held, store-outcome, stored-in, with-shard-group, zeroed-store}
 use Rattle.blocks_cache.specs.layout.Cache.{HeldOutcome, answered-on, call-on, pack, pack-outcome, pack-shard, sound-cache, view, zero-shard-group}
 use Rattle.blocks_group.proofs.arrays.StoreLaws.{model-room}
 use Rattle.blocks_group.proofs.layout.GroupLaws.{take-padded-each}
@@ -56,16 +56,14 @@ use Rattle.cache_rules.specs.Refusals.{further, has-room, sound-model}
 
 -- ===== the cases of an answer =====
 
--- an answer whose tag is not the first: nothing is stored
-pub unstored : (tag : StoreAnswer → ℕ) → ((both mismatch : Bool) → tag (stored-answer both mismatch) ≡ 0) → (a : StoreAnswer) (f : Bool → BlockCacheStoreResult) (h : Cache) →
-    (tag a ≡ 1) ⊎ (tag a ≡ 2) → nothing-stored a h ≡ when-stored a f h
-unstored tag first (stored-answer both mismatch) f h (inl e) = absurd (omega (arith, first both mismatch))
-unstored tag first (stored-answer both mismatch) f h (inr e) = absurd (omega (arith, first both mismatch))
-unstored tag first synced-answer f h t = refl
-unstored tag first (refused-answer n) f h t = refl
-
-pub was-stored : (a : StoreAnswer) (f : Bool → BlockCacheStoreResult) (h : Cache) (both mismatch : Bool) → a ≡ stored-answer both mismatch → f mismatch ≡ when-stored a f h
-was-stored a f h both mismatch e = rw e
+-- an answer whose tag is not the first: nothing is stored, by a definition that stores nothing where the answer is Synced or refused
+pub unstored : (tag : StoreAnswer → ℕ) → ((both mismatch : Bool) → tag (stored-answer both mismatch) ≡ 0) → (f : StoreAnswer → BlockCacheStoreResult) (h : Cache) →
+    nothing-stored synced-answer h ≡ f synced-answer → ((n : ℕ) → nothing-stored (refused-answer n) h ≡ f (refused-answer n)) →
+    (a : StoreAnswer) → (tag a ≡ 1) ⊎ (tag a ≡ 2) → nothing-stored a h ≡ f a
+unstored tag first f h synced-is refused-is (stored-answer both mismatch) (inl e) = absurd (omega (arith, first both mismatch))
+unstored tag first f h synced-is refused-is (stored-answer both mismatch) (inr e) = absurd (omega (arith, first both mismatch))
+unstored tag first f h synced-is refused-is synced-answer t = synced-is
+unstored tag first f h synced-is refused-is (refused-answer n) t = refused-is n
 
 -- ===== nothing is left free =====
 
@@ -81,21 +79,14 @@ nothing-zeroed (stored-answer both mismatch) h = refl
 nothing-zeroed synced-answer h = refl
 nothing-zeroed (refused-answer n) h = refl
 
-pub stored-zeroed : (a : StoreAnswer) (both mismatch : Bool) → a ≡ stored-answer both mismatch → (h : Cache) → Zeroed (stored-in a h)
-stored-zeroed a both mismatch e h =
-    rw e
-    (ap (λ (o : Option BlockId). record {
+pub stored-zeroed : (both mismatch : Bool) (h : Cache) → Zeroed (stored-in (stored-answer both mismatch) h)
+stored-zeroed both mismatch h =
+    ap (λ (o : Option BlockId). record {
       answer = stored-answer both mismatch;
       «last_collated_mc_block_id» = pack-last o;
       «applied_mc_queue_range» = h .«data» .range;
       cache = h;
-    }) (sym (view-pack-last (last (listed-ids (h .«data»))))))
-
-pub when-zeroed : (a : StoreAnswer) (f : Bool → BlockCacheStoreResult) (h : Cache) → ((both mismatch : Bool) → a ≡ stored-answer both mismatch → Zeroed (f mismatch)) →
-    Zeroed (when-stored a f h)
-when-zeroed (stored-answer both mismatch) f h z = z both mismatch refl
-when-zeroed synced-answer f h z = refl
-when-zeroed (refused-answer n) f h z = refl
+    }) (sym (view-pack-last (last (listed-ids (h .«data»)))))
 
 pub pick-zeroed : (b : Bool) (x y : BlockCacheStoreResult) → Zeroed x → Zeroed y → Zeroed (pick b x y)
 pick-zeroed true x y p q = p

@@ -17,9 +17,9 @@ use Rattle.block_records.specs.rules.Questions.{first-no}
 use Rattle.blocks_cache.proofs.layout.CacheLaws.{pack-sound, sound-cache-packed}
 use Rattle.blocks_cache.specs.layout.Cache.{answered-on, call-on, pack, questions-on, sound-cache, view}
 use Rattle.blocks_group.specs.rules.Group.{at-seqno}
-use Rattle.cache_rules.proofs.NeverRefused.{effect-yes, refusal}
+use Rattle.cache_rules.proofs.NeverRefused.{effect-yes}
 use Rattle.cache_rules.proofs.SoundSteps.{all-yes, empty-sound}
-use Rattle.cache_rules.specs.Calls.{Call, peek, read-tail-ids, refused}
+use Rattle.cache_rules.specs.Calls.{Call, peek, read-tail-ids, refusal, refused}
 use Rattle.cache_rules.specs.Effects.{effect, peek-entry, tail-ids-entry}
 use Rattle.cache_rules.specs.Model.{Model, empty-model, first-applied}
 

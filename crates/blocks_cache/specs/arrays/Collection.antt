@@ -1,5 +1,5 @@
 -- Document 01, Whole cache, Set boundary, Collect and Remove next collated: what the code does to a cache as it is held, for every cache, sound
--- or not, and what its answer says. On a packed cache this is the rule, packed (proofs/CollectionLaws).
+-- or not, and what its answer says. On a packed cache this is the rule, packed (proofs/arrays/CollectionLaws).
 -- Assumes nothing.
 use mathlib.Core.List.{List, [], _∷_}
 use mathlib.Core.Option.{Option, none, some}

@@ -1,5 +1,5 @@
 -- What extraction does to the arrays, for every input: the groups are looked up by their entries' seqnos, and moved together once at the end.
--- On a sound cache that is the rule, packed (proofs/ExtractionRun).
+-- On a sound cache that is the rule, packed (proofs/arrays/ExtractionRun).
 -- Assumes nothing.
 use mathlib.Core.Bool.{Bool, false}
 use mathlib.Core.List.{List, [], _++_, _∷_}

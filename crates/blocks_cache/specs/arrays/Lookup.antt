@@ -1,5 +1,5 @@
 -- The shard block that is cached under a shard and seqno, in the arrays, for every cache, sound or not. On a packed cache it is the one that the
--- rules look up, packed (proofs/CacheLookupLaws by the groups, proofs/BlockPlaceLaws by what was gathered).
+-- rules look up, packed (proofs/arrays/LookupLaws by the groups, proofs/arrays/LookupLaws by what was gathered).
 -- Assumes nothing.
 use mathlib.Core.Bool.{Bool, _&&_, false, true}
 use mathlib.Core.List.{List}

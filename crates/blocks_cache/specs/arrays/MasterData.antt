@@ -1,5 +1,5 @@
 -- What the code does to the master data's arrays, for every input, sound or not. It goes by what is listed; the result has zeros in the places
--- that are left. On packed data this is the rule of the model, packed (proofs/MasterDataLaws).
+-- that are left. On packed data this is the rule of the model, packed (proofs/arrays/MasterDataLaws).
 -- Assumes nothing.
 use mathlib.Core.Bool.{Bool, _||_, false, true}
 use mathlib.Core.List.{List}

@@ -1,5 +1,5 @@
 -- Document 01, Whole cache, Peek: what the code reads from a cache as it is held, for every cache, sound or not, and what its answer says.
--- On a packed cache this is the rule (proofs/PeekLaws).
+-- On a packed cache this is the rule (proofs/arrays/PeekLaws).
 -- Assumes nothing.
 use mathlib.Core.List.{List, [], _∷_}
 use mathlib.Core.Option.{Option, none, some}

@@ -1,5 +1,5 @@
 -- What the code does to the array of shard groups, for every input, sound or not. It goes by what is listed; the places after that stay as they
--- are. On packed groups this is the rule of the model, packed (proofs/ShardArrayLaws).
+-- are. On packed groups this is the rule of the model, packed (proofs/arrays/ShardsLaws).
 -- Assumes nothing.
 use mathlib.Core.Bool.{Bool}
 use mathlib.Core.List.{List}

@@ -1,5 +1,5 @@
 -- Document 01, Master data and Whole cache: what the two stores answer, and what they do to a cache as it is held, sound or not. On a sound cache
--- this is the rule of the model, packed (proofs/CacheStoreLaws).
+-- this is the rule of the model, packed (proofs/arrays/StoresLaws).
 -- Assumes nothing.
 use mathlib.Core.Bool.{Bool, true}
 use mathlib.Core.List.{List, []}
@@ -58,23 +58,20 @@ abbrev pub stored-in : StoreAnswer → Cache → BlockCacheStoreResult
 stored-in a c =
     record { answer = a; «last_collated_mc_block_id» = highest-id (c .«data»); «applied_mc_queue_range» = c .«data» .range; cache = c }
 
--- by a group's answer: stored, what is made of the mismatch; else nothing is stored
-abbrev pub when-stored : StoreAnswer → (Bool → BlockCacheStoreResult) → Cache → BlockCacheStoreResult
-when-stored (stored-answer both mismatch) f c = f mismatch
-when-stored synced-answer f c = nothing-stored synced-answer c
-when-stored (refused-answer n) f c = nothing-stored (refused-answer n) c
-
 -- the same result with zeros in the fields that its answer does not use
-abbrev pub zeroed-store : BlockCacheStoreResult → BlockCacheStoreResult
-zeroed-store r =
-    when-stored (r .answer)
-    (λ mismatch. record {
+abbrev pub zeroed-store-by : StoreAnswer → BlockCacheStoreResult → BlockCacheStoreResult
+zeroed-store-by (stored-answer both mismatch) r =
+    record {
       answer = r .answer;
       «last_collated_mc_block_id» = pack-last (view-last (r .«last_collated_mc_block_id»));
       «applied_mc_queue_range» = r .«applied_mc_queue_range»;
       cache = r .cache;
-    })
-    (r .cache)
+    }
+zeroed-store-by synced-answer r = nothing-stored synced-answer (r .cache)
+zeroed-store-by (refused-answer n) r = nothing-stored (refused-answer n) (r .cache)
+
+abbrev pub zeroed-store : BlockCacheStoreResult → BlockCacheStoreResult
+zeroed-store r = zeroed-store-by (r .answer) r
 
 -- ===== parts of the cache put in =====
 
@@ -124,13 +121,13 @@ range-end-moved s d = with-range (pack-range (moved-end s (view-range (d .range)
 
 -- A master, by what the group's store answers. Mismatch: nothing changes. 9. Is its seqno among the last collated ids, or are there under 32?
 abbrev pub master-candidate-stored : BlockCandidate → StoreAnswer → MasterGroup → Cache → BlockCacheStoreResult
-master-candidate-stored c a g h =
-    when-stored a
-    (λ mismatch. pick mismatch (stored-in a h)
+master-candidate-stored c (stored-answer both mismatch) g h =
+    pick mismatch (stored-in (stored-answer both mismatch) h)
     (pick (has-place-for-id (c .«block_id» .seqno) (h .«data»))
-    (stored-in a (with-masters-and-data g (collated-ids (c .«block_id») (h .«data»)) h))
-    (nothing-stored (refused-answer 9) h)))
-    h
+    (stored-in (stored-answer both mismatch) (with-masters-and-data g (collated-ids (c .«block_id») (h .«data»)) h))
+    (nothing-stored (refused-answer 9) h))
+master-candidate-stored c synced-answer g h = nothing-stored synced-answer h
+master-candidate-stored c (refused-answer n) g h = nothing-stored (refused-answer n) h
 
 -- the store of the master group, and what is made of its answer
 unfoldable pub store-master-candidate : BlockCandidate → Cache → BlockCacheStoreResult
@@ -138,8 +135,10 @@ store-master-candidate c h = let s = store-collated-master c (h .masters) in mas
 
 -- A shard block, by what its group's store answers. Mismatch: nothing changes.
 abbrev pub shard-candidate-stored : StoreAnswer → ShardGroup → Cache → BlockCacheStoreResult
-shard-candidate-stored a g h =
-    when-stored a (λ mismatch. pick mismatch (stored-in a h) (stored-in a (with-shard-group g (h .«data») h))) h
+shard-candidate-stored (stored-answer both mismatch) g h =
+    stored-in (stored-answer both mismatch) (pick mismatch h (with-shard-group g (h .«data») h))
+shard-candidate-stored synced-answer g h = nothing-stored synced-answer h
+shard-candidate-stored (refused-answer n) g h = nothing-stored (refused-answer n) h
 
 -- 8. for a new shard are there under 8 groups? Then the store of its group, and what is made of its answer.
 abbrev pub shard-candidate-in : BlockCandidate → ShardHeld → Cache → BlockCacheStoreResult
@@ -161,11 +160,11 @@ store-candidate c h = pick (is-masterchain (id-shard (c .«block_id»))) (store-
 
 -- A master that is not Synced: the end is moved; on mismatch ids from its seqno on go.
 abbrev pub master-receipt-stored : ReceivedBlock → StoreAnswer → MasterGroup → Cache → BlockCacheStoreResult
-master-receipt-stored r a g h =
-    when-stored a
-    (λ mismatch. stored-in a
-    (with-masters-and-data g (range-end-moved (r .«block_id» .seqno) (ids-after mismatch (r .«block_id» .seqno) (h .«data»))) h))
-    h
+master-receipt-stored r (stored-answer both mismatch) g h =
+    stored-in (stored-answer both mismatch)
+    (with-masters-and-data g (range-end-moved (r .«block_id» .seqno) (ids-after mismatch (r .«block_id» .seqno) (h .«data»))) h)
+master-receipt-stored r synced-answer g h = nothing-stored synced-answer h
+master-receipt-stored r (refused-answer n) g h = nothing-stored (refused-answer n) h
 
 -- the store of the master group, and what is made of its answer
 unfoldable pub store-master-receipt : ReceivedBlock → Cache → BlockCacheStoreResult
@@ -174,8 +173,10 @@ store-master-receipt r h =
 
 -- A shard block that is not Synced: on mismatch ids from its reference seqno on go.
 abbrev pub shard-receipt-stored : ReceivedBlock → StoreAnswer → ShardGroup → Cache → BlockCacheStoreResult
-shard-receipt-stored r a g h =
-    when-stored a (λ mismatch. stored-in a (with-shard-group g (ids-after mismatch (r .«ref_block_id» .seqno) (h .«data»)) h)) h
+shard-receipt-stored r (stored-answer both mismatch) g h =
+    stored-in (stored-answer both mismatch) (with-shard-group g (ids-after mismatch (r .«ref_block_id» .seqno) (h .«data»)) h)
+shard-receipt-stored r synced-answer g h = nothing-stored synced-answer h
+shard-receipt-stored r (refused-answer n) g h = nothing-stored (refused-answer n) h
 
 -- 8. for a new shard are there under 8 groups? Then the store of its group, and what is made of its answer.
 abbrev pub shard-receipt-in : ReceivedBlock → ShardHeld → Cache → BlockCacheStoreResult

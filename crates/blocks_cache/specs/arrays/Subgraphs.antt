@@ -1,9 +1,9 @@
 -- Document 01, Whole cache: pop and sync extraction as the code answers them, for every cache, request and number of places that the lent
--- slice has. What each answer says as the rules' answer is `extract-says`; proofs/SubgraphLaws says that it is the rules' call.
+-- slice has. What each answer says as the rules' answer is `extract-says`; proofs/arrays/SubgraphsLaws says that it is the rules' call.
 -- Assumes nothing.
-use mathlib.Core.List.{List, [], _∷_}
-use mathlib.Core.Option.{Option, none, some}
-use Prim.Native.Nat.{ℕ}
+use mathlib.Core.List.{List, []}
+use mathlib.Core.Path.{_≡_}
+use Prim.Native.Nat.{_≤_, ℕ}
 use lib.IntN.{negsuc}
 use lib.ListN.{length, replicate, take}
 use Rattle.block_records.specs.declared.block_id.BlockId.{BlockId}
@@ -21,20 +21,17 @@ use Rattle.blocks_cache.specs.declared.master_data.AppliedRange.{Applied
 use Rattle.blocks_group.specs.declared.group.MasterGroup.{MasterGroup}
 use Rattle.block_records.specs.layout.Entry.{pack-entry, pack-master}
 use Rattle.block_records.specs.layout.Zeros.{zero-entry, zero-master}
-use Rattle.block_records.specs.rules.Entry.{Entry, kind-applied}
+use Rattle.block_records.specs.rules.Entry.{kind-applied}
 use Rattle.block_records.specs.rules.Limits.{slice-places}
 use Rattle.block_records.specs.rules.Lists.{each, last, padded, pick}
-use Rattle.block_records.specs.rules.Questions.{Question, ask, first-no}
 use Rattle.blocks_cache.specs.arrays.Extraction.{view-master}
+use Rattle.blocks_cache.specs.arrays.LentSlices.{filled-at}
 use Rattle.blocks_cache.specs.arrays.MasterData.{drop-ids-below}
-use Rattle.blocks_cache.specs.layout.Cache.{HeldOutcome, call-on, pack, pack-range, sound-cache, view, view-range}
+use Rattle.blocks_cache.specs.layout.Cache.{HeldOutcome, call-on, pack, pack-range, view-range}
 use Rattle.blocks_group.specs.arrays.Group.{master-seqno}
-use Rattle.blocks_group.specs.rules.Group.{at-seqno}
-use Rattle.cache_rules.specs.Calls.{Answer, Extract, Request, already-extracted, extracted, pop, popped, refused, sync}
-use Rattle.cache_rules.specs.Effects.{pop-entry, sync-entry}
-use Rattle.cache_rules.specs.Extraction.{Walk, extract, extraction-of}
-use Rattle.cache_rules.specs.Model.{Model, first-applied, is-last, moved-start}
-use Rattle.cache_rules.specs.Refusals.{further}
+use Rattle.cache_rules.specs.Calls.{Answer, Call, Effect, Extract, Request, already-extracted, extracted, pop, popped, refused, sync}
+use Rattle.cache_rules.specs.Extraction.{extract}
+use Rattle.cache_rules.specs.Model.{moved-start}
 
 -- ===== what is handed out =====
 
@@ -43,33 +40,7 @@ abbrev pub no-extract : ExtractAnswer → Cache → ExtractWithBlocks
 no-extract a c =
     record { extract = record { answer = a; master = zero-master; joined = 0; taken = 0; cache = c }; blocks = padded slice-places zero-entry [] }
 
--- M, its subgraph's blocks with zeros after them, and the model that is left
-abbrev pub an-extract : ExtractAnswer → Entry → Walk → Model → ExtractWithBlocks
-an-extract a M w m =
-    record {
-      extract = record { answer = a; master = pack-master M; joined = length (w .joined); taken = w .taken; cache = pack m };
-      blocks = padded slice-places zero-entry (each pack-entry (w .joined));
-    }
-
--- Pop: the rule's model, and 'last' says that no applied entry lies above. No applied entry at or above f gives 11.
-abbrev pub pop-plain : Option Entry → Model → ExtractWithBlocks
-pop-plain none m = no-extract (refused-extract 11) (pack m)
-pop-plain (some M) m = an-extract (popped-extract (is-last (M .id .seqno) m)) M (extraction-of M m) (pop-entry (some M) m .model)
-
--- Sync extraction: the rule's model. No entry: AlreadyExtracted, nothing changes.
-abbrev pub sync-plain : Option Entry → Model → ExtractWithBlocks
-sync-plain none m = no-extract already-answer (pack m)
-sync-plain (some M) m = an-extract extracted-answer M (extraction-of M m) (sync-entry (some M) m .model)
-
--- ===== the questions =====
-
--- Refused, nothing is handed out and the cache is as it was.
-abbrev pub plain-answered : Option ℕ → Cache → ExtractWithBlocks → ExtractWithBlocks
-plain-answered none c r = r
-plain-answered (some n) c r = no-extract (refused-extract n) c
-
-abbrev pub plain-questions : Cache → ℕ → Request → List Question
-plain-questions c places q = ask 1 (sound-cache c) ∷ further (view c) places q
+-- ===== a request =====
 
 -- a masterchain id of a seqno; sync extraction does not look at the rest
 unfoldable pub some-id : ℕ → BlockId
@@ -78,12 +49,6 @@ some-id n = record { prefix = 0; workchain = negsuc 0; seqno = n; «root_hash» 
 abbrev pub request-seqno : ExtractRequest → ℕ
 request-seqno (pop-request f) = f
 request-seqno (sync-request n) = n
-
-unfoldable pub plain-extract : Cache → ExtractRequest → ℕ → ExtractWithBlocks
-plain-extract c (pop-request f) places =
-    plain-answered (first-no (plain-questions c places (pop f))) c (pop-plain (first-applied f (view c)) (view c))
-plain-extract c (sync-request n) places =
-    plain-answered (first-no (plain-questions c places (sync (some-id n)))) c (sync-plain (at-seqno n (view c .masters .entries)) (view c))
 
 -- ===== what the code does to the arrays =====
 
@@ -134,10 +99,18 @@ extract-says r (refused-extract n) = refused n
 abbrev pub extract-outcome : SubgraphExtract → List BlockCacheEntry → HeldOutcome
 extract-outcome r slice = record { cache = r .cache; answer = extract-says r (r .answer); slice = slice }
 
--- a request as a call on the cache, with the slice that is lent
+-- a request as the rules have it
+abbrev pub extract-request : ExtractRequest → Request
+extract-request (pop-request f) = pop f
+extract-request (sync-request n) = sync (some-id n)
+
+-- a request as a call, with the slice that is lent
+abbrev pub extract-call : ExtractRequest → List BlockCacheEntry → Call
+extract-call q lent = record { request = extract-request q; lent = lent }
+
+-- that call on the cache
 abbrev pub extract-on : Cache → ExtractRequest → List BlockCacheEntry → HeldOutcome
-extract-on c (pop-request f) lent = call-on c (record { request = pop f; lent = lent })
-extract-on c (sync-request n) lent = call-on c (record { request = sync (some-id n); lent = lent })
+extract-on c q lent = call-on c (extract-call q lent)
 
 abbrev pub with-master : MasterBlock → SubgraphExtract → SubgraphExtract
 with-master b r = record { answer = r .answer; master = b; joined = r .joined; taken = r .taken; cache = r .cache }
@@ -155,3 +128,22 @@ zeroed-extract r = zeroed-extract-by r (r .answer)
 -- the blocks that joined
 abbrev pub joined-blocks : ExtractWithBlocks → List BlockCacheEntry
 joined-blocks p = take (p .extract .joined) (p .blocks)
+
+-- ===== an extract with its blocks beside it =====
+
+-- It is what a pop or a sync extraction does by the rules, packed: the cache, the answer, and the joined blocks with zeros after them.
+pub record PacksEffect (e : Effect) (p : ExtractWithBlocks) : Type 0 where
+  pub cache : p .extract .cache ≡ pack (e .model)
+  pub answer : extract-says (p .extract) (p .extract .answer) ≡ e .answer
+  pub joined : p .extract .joined ≡ length (e .blocks)
+  pub blocks : p .blocks ≡ padded slice-places zero-entry (each pack-entry (e .blocks))
+  pub zeroed : p .extract ≡ zeroed-extract (p .extract)
+
+-- It is the call with a slice of so many places: written over the front of any such slice, its blocks leave the call's outcome. They fit the slice,
+-- there are zeros after them, and in the fields that the answer does not use.
+pub record ExtractsWithBlocks (c : Cache) (q : ExtractRequest) (places : ℕ) (p : ExtractWithBlocks) : Type 0 where
+  pub outcome : (lent : List BlockCacheEntry) → length lent ≡ places → extract-outcome (p .extract) (filled-at 0 (p .extract .joined) (p .blocks) lent) ≡ extract-on c q lent
+  pub fits : p .extract .joined ≤ places
+  pub few : p .extract .joined ≤ slice-places
+  pub rest : p .blocks ≡ padded slice-places zero-entry (joined-blocks p)
+  pub zeroed : p .extract ≡ zeroed-extract (p .extract)

@@ -1,5 +1,5 @@
 -- Document 01, Tail ids: the rows as they are held, and what the code does to them and to the ids that wait, for every input, sound or not.
--- On packed rows and a packed cache this is the rule, packed (proofs/TailReadLaws).
+-- On packed rows and a packed cache this is the rule, packed (proofs/arrays/TailIdsLaws).
 -- Assumes nothing.
 use mathlib.Core.Bool.{Bool, _&&_, _||_, false, not, true}
 use mathlib.Core.List.{List, [], _++_, _∷_}

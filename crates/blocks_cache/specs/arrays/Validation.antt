@@ -1,5 +1,5 @@
 -- Document 01, Whole cache, Validation: what the code does to a cache as it is held, for every cache, sound or not, and what its answer says.
--- On a packed cache this is the rule, packed (proofs/ValidationLaws).
+-- On a packed cache this is the rule, packed (proofs/arrays/ValidationLaws).
 -- Assumes nothing.
 use mathlib.Core.Bool.{false, true}
 use mathlib.Core.List.{[]}

@@ -97,7 +97,7 @@ cache-tidy c = same-cache c (pack (view c))
 unfoldable pub sound-cache : Cache → Bool
 sound-cache c = cache-tidy c && sound-model (view c)
 
--- ===== the same, part by part, as the code asks it (proofs/SoundParts: `sound-cache` is this) =====
+-- ===== the same, part by part, as the code asks it (proofs/layout/SoundnessLaws: `sound-cache` is this) =====
 
 abbrev pub shard-group-before : ShardGroup → ShardGroup → Bool
 shard-group-before a b = less-shard (a .shard) (b .shard)

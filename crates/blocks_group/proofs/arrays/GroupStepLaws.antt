@@ -1,4 +1,4 @@
--- What the code's steps make of a group's arrays, of 16 places each, is what the definitions of specs/GroupArrays say.
+-- What the code's steps make of a group's arrays, of 16 places each, is what the definitions of specs/arrays/Group say.
 -- Assumes nothing.
 use mathlib.Core.Bool.{Bool, false}
 use mathlib.Core.List.{List, [], _∷_}

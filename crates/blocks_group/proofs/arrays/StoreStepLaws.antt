@@ -1,4 +1,4 @@
--- What each branch of a store's code makes is that case of its definition (specs/GroupStores).
+-- What each branch of a store's code makes is that case of its definition (specs/arrays/Store).
 -- Assumes nothing.
 use mathlib.Core.Bool.{Bool, false, true}
 use mathlib.Core.Option.{Option, Option·map, none, some}

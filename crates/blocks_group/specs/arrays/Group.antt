@@ -1,5 +1,5 @@
 -- What the code does to a group's arrays, for every input, sound or not. It goes by what is listed; the result has zeros in the places that are left.
--- On a packed group this is the rule of the model, packed (proofs/GroupArrayLaws).
+-- On a packed group this is the rule of the model, packed (proofs/arrays/GroupLaws).
 -- Assumes nothing.
 use mathlib.Core.Bool.{Bool, _||_, not}
 use mathlib.Core.List.{List, [], _∷_}

@@ -1,5 +1,5 @@
 -- What pop, peek, collect and remove next collated ask of one group, for every input, sound or not: by what is listed.
--- On a packed group each is what the rules say of the model (proofs/QueryLaws).
+-- On a packed group each is what the rules say of the model (proofs/arrays/QueryLaws).
 -- Assumes nothing.
 use mathlib.Core.Bool.{Bool, _&&_, false, not}
 use mathlib.Core.List.{List}

@@ -1,4 +1,4 @@
--- Document 01, question 1 of one group, part by part, as the code asks it of the arrays; proofs/SoundGroupLaws says that it is the same.
+-- Document 01, question 1 of one group, part by part, as the code asks it of the arrays; proofs/arrays/SoundnessLaws says that it is the same.
 -- Assumes nothing.
 use mathlib.Core.Bool.{Bool, _&&_}
 use mathlib.Core.List.{List}

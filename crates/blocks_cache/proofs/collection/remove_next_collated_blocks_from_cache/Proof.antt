@@ -24,7 +24,7 @@ enum-told-2 c = search needs
 returns : tie.Need-returns
 returns c =
     let s = c .before .before .before in
-    let ks = s .args .to-blocks-keys in
+    let ks = s .args .after-blocks-keys in
     change-refuses _ (keys-questions ks) (asks-removal ks) (λ (x : Cache). fold held-remove-one x (listed-keys ks)) (λ (m : Model). fold remove-one m (listed-keys ks)) (removes ks) (remove-packed (listed-keys ks)) (s .args .cache) _ (c .before .before .keys-answer .ensures) _ (c .enum-told2 .given .1)
 
 remove-all-requires : tie.Need-remove-all-requires
@@ -33,7 +33,7 @@ remove-all-requires c κs = search needs
 returns-2 : tie.Need-returns-2
 returns-2 c =
     let s = c .before .before .before .before in
-    let ks = s .args .to-blocks-keys in
+    let ks = s .args .after-blocks-keys in
     change-is _ (keys-questions ks) (asks-removal ks) (λ (x : Cache). fold held-remove-one x (listed-keys ks)) (λ (m : Model). fold remove-one m (listed-keys ks)) (removes ks) (remove-packed (listed-keys ks)) (s .args .cache) _ (c .before .before .before .keys-answer .ensures) (c .before .enum-told .given .1) _ (c .remove-all .ensures)
 
 pub remove-next-collated-blocks-from-cache-spec : {M : Type 1} → statement M

@@ -1,6 +1,6 @@
 -- Each return is a case of the definition.
 -- Assumes nothing.
-use mathlib.Core.Path.{_≡_, sym, ap, _∙_}
+use mathlib.Core.Path.{_≡_, sym, ap, subst, _∙_}
 use Prim.Native.Nat.{ℕ}
 use borrow.Author.Needs.{needs}
 use borrow.Author.Tests.{not-true, not-false}
@@ -8,8 +8,9 @@ use Rattle.block_records.specs.rules.Questions.{seqno-fits}
 use Rattle.blocks_cache.specs.declared.extraction.ExtractRequest.{ExtractRequest}
 use Rattle.blocks_group.specs.rules.Group.{at-seqno}
 use Rattle.blocks_cache.specs.layout.Cache.{view}
-use Rattle.blocks_cache.specs.arrays.Subgraphs.{plain-extract, request-seqno, sync-plain}
-use Rattle.blocks_cache.proofs.arrays.SubgraphsLaws.{plain-pops, plain-short, plain-syncs, plain-unfit, plain-unsound}
+use Rattle.blocks_cache.specs.arrays.Subgraphs.{ExtractsWithBlocks, PacksEffect, request-seqno}
+use Rattle.cache_rules.specs.Effects.{sync-entry}
+use Rattle.blocks_cache.proofs.arrays.SubgraphsLaws.{pops, short-refused, syncs, unfit-refused, unsound-refused}
 use Rattle.blocks_cache.proofs.extraction.extract_with_blocks.Statement.{statement}
 use Rattle.blocks_cache.proofs.extraction.extract_with_blocks.Tie as tie
 
@@ -23,7 +24,8 @@ returns : tie.Need-returns
 returns c =
     let v = c .before .before in
     let s = v .before in
-    c .no-extract .ensures ∙ plain-unsound (s .args .cache) (s .args .places) (s .args .request) (sym (v .sound-cache .ensures) ∙ not-true (v .sound-cache .result) (c .before .if1 .taken))
+    unsound-refused (s .args .cache) (s .args .places) (s .args .request) (c .no-extract .result) (c .no-extract .ensures)
+    (sym (v .sound-cache .ensures) ∙ not-true (v .sound-cache .result) (c .before .if1 .taken))
 
 request-seqno-requires : tie.Need-request-seqno-requires
 request-seqno-requires c κs = search needs
@@ -41,8 +43,7 @@ returns-2 c =
     let i = q .before in
     let v = i .before in
     let s = v .before in
-    c .no-extract2 .ensures
-    ∙ plain-unfit (s .args .cache) (s .args .places) (sym (v .sound-cache .ensures) ∙ not-false (v .sound-cache .result) (i .if1 .left)) (s .args .request)
+    unfit-refused (s .args .cache) (s .args .places) (sym (v .sound-cache .ensures) ∙ not-false (v .sound-cache .result) (i .if1 .left)) (s .args .request) (c .no-extract2 .result) (c .no-extract2 .ensures)
     (sym (f .seqno-fits .ensures ∙ ap seqno-fits (q .request-seqno .ensures)) ∙ not-true (f .seqno-fits .result) (c .before .if2 .taken))
 
 no-extract-requires-3 : tie.Need-no-extract-requires-3
@@ -56,8 +57,7 @@ returns-3 c =
     let i = q .before in
     let v = i .before in
     let s = v .before in
-    c .no-extract3 .ensures
-    ∙ plain-short (s .args .cache) (s .args .places) (sym (v .sound-cache .ensures) ∙ not-false (v .sound-cache .result) (i .if1 .left)) (s .args .request)
+    short-refused (s .args .cache) (s .args .places) (sym (v .sound-cache .ensures) ∙ not-false (v .sound-cache .result) (i .if1 .left)) (s .args .request) (c .no-extract3 .result) (c .no-extract3 .ensures)
     (sym (f .seqno-fits .ensures ∙ ap seqno-fits (q .request-seqno .ensures)) ∙ not-false (f .seqno-fits .result) (j .if2 .left)) (c .before .if3 .taken)
 
 enum-known-request : tie.Need-enum-known-request
@@ -80,9 +80,9 @@ returns-4 c =
     let v = i .before in
     let s = v .before in
     let e = r .request .given .1 in
-    plain-pops (s .args .cache) (s .args .places) (sym (v .sound-cache .ensures) ∙ not-false (v .sound-cache .result) (i .if1 .left)) _
-    (sym (f .seqno-fits .ensures ∙ ap seqno-fits (q .request-seqno .ensures ∙ ap request-seqno e)) ∙ not-false (f .seqno-fits .result) (j .if2 .left)) (k .if3 .left) _ (c .pop-with-blocks .ensures)
-    ∙ sym (ap (λ (x : ExtractRequest). plain-extract (s .args .cache) x (s .args .places)) e)
+    subst (λ (x : ExtractRequest). ExtractsWithBlocks (s .args .cache) x (s .args .places) (c .pop-with-blocks .result)) (sym e)
+    (pops (s .args .cache) (s .args .places) (sym (v .sound-cache .ensures) ∙ not-false (v .sound-cache .result) (i .if1 .left)) _
+    (sym (f .seqno-fits .ensures ∙ ap seqno-fits (q .request-seqno .ensures ∙ ap request-seqno e)) ∙ not-false (f .seqno-fits .result) (j .if2 .left)) (k .if3 .left) (c .pop-with-blocks .result) (c .pop-with-blocks .ensures))
 
 enum-told : tie.Need-enum-told
 enum-told c = search needs
@@ -105,10 +105,10 @@ returns-5 c =
     let s = v .before in
     let e = r .enum-told .given .1 in
     let n = q .request-seqno .ensures ∙ ap request-seqno e in
-    plain-syncs (s .args .cache) (s .args .places) (sym (v .sound-cache .ensures) ∙ not-false (v .sound-cache .result) (i .if1 .left)) _
-    (sym (f .seqno-fits .ensures ∙ ap seqno-fits n) ∙ not-false (f .seqno-fits .result) (j .if2 .left)) (k .if3 .left) _
-    (c .sync-with-blocks .ensures ∙ ap (λ (m : ℕ). sync-plain (at-seqno m (view (s .args .cache) .masters .entries)) (view (s .args .cache))) n)
-    ∙ sym (ap (λ (x : ExtractRequest). plain-extract (s .args .cache) x (s .args .places)) e)
+    subst (λ (x : ExtractRequest). ExtractsWithBlocks (s .args .cache) x (s .args .places) (c .sync-with-blocks .result)) (sym e)
+    (syncs (s .args .cache) (s .args .places) (sym (v .sound-cache .ensures) ∙ not-false (v .sound-cache .result) (i .if1 .left)) _
+    (sym (f .seqno-fits .ensures ∙ ap seqno-fits n) ∙ not-false (f .seqno-fits .result) (j .if2 .left)) (k .if3 .left) (c .sync-with-blocks .result)
+    (subst (λ (m : ℕ). PacksEffect (sync-entry (at-seqno m (view (s .args .cache) .masters .entries)) (view (s .args .cache))) (c .sync-with-blocks .result)) n (c .sync-with-blocks .ensures)))
 
 pub extract-with-blocks-spec : {M : Type 1} → statement M
 extract-with-blocks-spec =

@@ -4,8 +4,7 @@ use mathlib.Core.Path.{_∙_, refl, sym}
 use borrow.Author.Tests.{not-false, not-true}
 use denote.Enum.Declared.{tagOf}
 use Rattle.blocks_group.proofs.store.StoreAnswer.{the-type}
-use Rattle.blocks_cache.proofs.arrays.StoresLaws.{unstored}
-use Rattle.blocks_cache.proofs.arrays.CollatedStoreLaws.{master-candidate-full, master-candidate-is, master-candidate-kept, master-candidate-put}
+use Rattle.blocks_cache.proofs.arrays.CollatedStoreLaws.{master-candidate-full, master-candidate-is, master-candidate-kept, master-candidate-put, master-candidate-unstored}
 use borrow.Author.Needs.{needs}
 use Rattle.blocks_cache.proofs.stores.store_master_candidate.Statement.{statement}
 use Rattle.blocks_cache.proofs.stores.store_master_candidate.Tie as tie
@@ -24,7 +23,7 @@ returns c =
     let p = c .before .before in
     let s = p .before in
     let r = p .store-collated-master .result in
-    c .nothing-stored .ensures ∙ unstored (tagOf the-type) (λ both mismatch. refl) (r .answer) _ (s .args .cache) (c .before .match .keys2)
+    c .nothing-stored .ensures ∙ master-candidate-unstored (tagOf the-type) (λ both mismatch. refl) (s .args .cache) (r .answer) (c .before .match .keys2) _ _
     ∙ master-candidate-is (s .args .candidate) (s .args .cache) r (p .store-collated-master .ensures)
 
 stored-in-requires : tie.Need-stored-in-requires

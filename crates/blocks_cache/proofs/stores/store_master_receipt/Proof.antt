@@ -3,8 +3,7 @@
 use mathlib.Core.Path.{_∙_, refl}
 use denote.Enum.Declared.{tagOf}
 use Rattle.blocks_group.proofs.store.StoreAnswer.{the-type}
-use Rattle.blocks_cache.proofs.arrays.StoresLaws.{unstored}
-use Rattle.blocks_cache.proofs.arrays.ReceivedStoreLaws.{master-receipt-is, master-receipt-put}
+use Rattle.blocks_cache.proofs.arrays.ReceivedStoreLaws.{master-receipt-is, master-receipt-put, master-receipt-unstored}
 use borrow.Author.Needs.{needs}
 use Rattle.blocks_cache.proofs.stores.store_master_receipt.Statement.{statement}
 use Rattle.blocks_cache.proofs.stores.store_master_receipt.Tie as tie
@@ -23,7 +22,7 @@ returns c =
     let p = c .before .before in
     let s = p .before in
     let r = p .store-received-master .result in
-    c .nothing-stored .ensures ∙ unstored (tagOf the-type) (λ both mismatch. refl) (r .answer) _ (s .args .cache) (c .before .match .keys2)
+    c .nothing-stored .ensures ∙ master-receipt-unstored (tagOf the-type) (λ both mismatch. refl) (s .args .cache) (r .answer) (c .before .match .keys2) _ _
     ∙ master-receipt-is (s .args .received) (s .args .cache) r (p .store-received-master .ensures)
 
 ids-after-requires : tie.Need-ids-after-requires

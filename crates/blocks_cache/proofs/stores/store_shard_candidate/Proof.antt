@@ -4,8 +4,7 @@ use mathlib.Core.Path.{_∙_, refl, sym}
 use borrow.Author.Tests.{not-false, not-true}
 use denote.Enum.Declared.{tagOf}
 use Rattle.blocks_group.proofs.store.StoreAnswer.{the-type}
-use Rattle.blocks_cache.proofs.arrays.StoresLaws.{unstored}
-use Rattle.blocks_cache.proofs.arrays.CollatedStoreLaws.{shard-candidate-full, shard-candidate-is, shard-candidate-kept, shard-candidate-put}
+use Rattle.blocks_cache.proofs.arrays.CollatedStoreLaws.{shard-candidate-full, shard-candidate-is, shard-candidate-kept, shard-candidate-put, shard-candidate-unstored}
 use borrow.Author.Needs.{needs}
 use Rattle.blocks_cache.proofs.stores.store_shard_candidate.Statement.{statement}
 use Rattle.blocks_cache.proofs.stores.store_shard_candidate.Tie as tie
@@ -44,7 +43,7 @@ returns-2 c =
     let i = x .before .before in
     let s = i .before in
     let r = p .store-collated-block .result in
-    c .nothing-stored2 .ensures ∙ unstored (tagOf the-type) (λ both mismatch. refl) (r .answer) _ (s .args .cache) (c .before .match .keys2)
+    c .nothing-stored2 .ensures ∙ shard-candidate-unstored (tagOf the-type) (λ both mismatch. refl) (s .args .cache) (r .answer) (c .before .match .keys2) _
     ∙ shard-candidate-is (s .args .candidate) (s .args .cache) (i .id-shard .result) (i .id-shard .ensures) (x .shard-held .result) (x .shard-held .ensures)
     (not-false (x .shard-held .result .room) (p .before .if1 .left)) r (p .store-collated-block .ensures)
 

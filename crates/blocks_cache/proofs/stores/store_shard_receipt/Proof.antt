@@ -4,8 +4,7 @@ use mathlib.Core.Path.{_∙_, refl}
 use borrow.Author.Tests.{not-false, not-true}
 use denote.Enum.Declared.{tagOf}
 use Rattle.blocks_group.proofs.store.StoreAnswer.{the-type}
-use Rattle.blocks_cache.proofs.arrays.StoresLaws.{unstored}
-use Rattle.blocks_cache.proofs.arrays.ReceivedStoreLaws.{shard-receipt-full, shard-receipt-is, shard-receipt-put}
+use Rattle.blocks_cache.proofs.arrays.ReceivedStoreLaws.{shard-receipt-full, shard-receipt-is, shard-receipt-put, shard-receipt-unstored}
 use borrow.Author.Needs.{needs}
 use Rattle.blocks_cache.proofs.stores.store_shard_receipt.Statement.{statement}
 use Rattle.blocks_cache.proofs.stores.store_shard_receipt.Tie as tie
@@ -44,7 +43,7 @@ returns-2 c =
     let i = x .before .before in
     let s = i .before in
     let r = p .store-received-block .result in
-    c .nothing-stored2 .ensures ∙ unstored (tagOf the-type) (λ both mismatch. refl) (r .answer) _ (s .args .cache) (c .before .match .keys2)
+    c .nothing-stored2 .ensures ∙ shard-receipt-unstored (tagOf the-type) (λ both mismatch. refl) (s .args .cache) (r .answer) (c .before .match .keys2) _ _
     ∙ shard-receipt-is (s .args .received) (s .args .cache) (i .id-shard .result) (i .id-shard .ensures) (x .shard-held .result) (x .shard-held .ensures)
     (not-false (x .shard-held .result .room) (p .before .if1 .left)) r (p .store-received-block .ensures)
 

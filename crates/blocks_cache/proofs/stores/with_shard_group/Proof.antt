@@ -11,14 +11,14 @@ put-shard-requires c κs = search needs
 
 returns : tie.Need-returns
 returns c =
-    let s = c .before .before .before .before in
+    let s = c .before .before .before in
     ap (λ (x : Shards). record {
       «zerostate_mc_seqno» = s .args .cache .«zerostate_mc_seqno»;
       masters = s .args .cache .masters;
       «data» = s .args .«data»;
       shards = x .groups;
       «shard_count» = x .count;
-    }) (c .before .before .put-shard .ensures)
+    }) (c .before .put-shard .ensures)
 
 pub with-shard-group-spec : {M : Type 1} → statement M
 with-shard-group-spec = tie.close (tie.spec put-shard-requires returns)

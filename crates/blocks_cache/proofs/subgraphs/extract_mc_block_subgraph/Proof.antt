@@ -52,8 +52,7 @@ use Rattle.blocks_cache.specs.declared.extraction.ExtractRequest.{Extrac
 use Rattle.blocks_cache.specs.declared.extraction.ExtractWithBlocks.{ExtractWithBlocks}
 use Rattle.blocks_cache.specs.declared.extraction.SubgraphExtract.{SubgraphExtract}
 use Rattle.blocks_cache.specs.arrays.LentSlices.{filled-at}
-use Rattle.blocks_cache.specs.arrays.Subgraphs.{extract-on, extract-outcome, plain-extract, zeroed-extract}
-use Rattle.blocks_cache.proofs.arrays.SubgraphsLaws.{ExtractWithBlockss, plain-extracts}
+use Rattle.blocks_cache.specs.arrays.Subgraphs.{ExtractsWithBlocks, extract-on, extract-outcome, zeroed-extract}
 use Rattle.blocks_cache.proofs.walks.ArrayFieldWalk.{array-of-field}
 use Rattle.block_records.proofs.entry.BlockCacheEntry as E
 use Rattle.block_records.proofs.entry.BlockCacheEntry.Laws as E′
@@ -205,10 +204,7 @@ module _ {M : Type 1} (𝓤 : URA M) (H : Heap 𝓤) (A : Atoms 𝓤) (W : Given
 
   -- what `extract_with_blocks` ensures of its answer, and so what is promised of it
   abbrev Answers : ExtractWithBlocks → Type 0
-  Answers p = p ≡ plain-extract c request (length ys)
-
-  extracts : (p : ExtractWithBlocks) → Answers p → ExtractWithBlockss c request (length ys) p
-  extracts p e = subst (ExtractWithBlockss c request (length ys)) (sym e) (plain-extracts c request (length ys))
+  Answers p = ExtractsWithBlocks c request (length ys) p
 
   answered : (p : ExtractWithBlocks) → ent 𝓤 (ensured 𝓤 H A extract-with-blocks.ended (extract-with-blocks.clauses 𝓤 H A at-mem run) tt (c, (request, (length ys, tt))) tt p) (fact 𝓤 (Answers p))
   answered p = exE 𝓤 _ (λ ws. snd∗ 𝓤 (sem 𝓤 H A (lasts extract-with-blocks.ended tt (c, (request, (length ys, tt))) ws)) (fact 𝓤 (Answers p)))
@@ -219,7 +215,7 @@ module _ {M : Type 1} (𝓤 : URA M) (H : Heap 𝓤) (A : Atoms 𝓤) (W : Given
 
   -- what is promised of the answer and of that list
   promised : (p : ExtractWithBlocks) (zs : List BlockCacheEntry) → Answers p → zs ≡ front p → (extract-outcome (p .extract) zs ≡ extract-on c request ys) × (p .extract ≡ zeroed-extract (p .extract))
-  promised p zs e ez = (ap (extract-outcome (p .extract)) ez ∙ extracts p e .outcome ys refl, extracts p e .zeroed)
+  promised p zs e ez = (ap (extract-outcome (p .extract)) ez ∙ e .outcome ys refl, e .zeroed)
 
   exits : (p : ExtractWithBlocks) (v : Val) (zs : List BlockCacheEntry) → Answers p → Is P.the-row p (v ∷ []) → zs ≡ front p → length zs ≡ length ys
       → ent 𝓤 (sep 𝓤 (A .lft κ q) (sem 𝓤 H A (finally E.the-row γ zs))) (Post (extract-val (p .extract)))
@@ -241,7 +237,7 @@ module _ {M : Type 1} (𝓤 : URA M) (H : Heap 𝓤) (A : Atoms 𝓤) (W : Given
   to-fill p = (((κ, tt), (q, tt), tt, (out, (0, (p .blocks, (p .extract .joined, tt)))), (s ∷ [], (vint w64 0 ∷ [], (blocks-val p ∷ [], (vint w64 (p .extract .joined) ∷ [], tt))))), tt)
 
   fits : (p : ExtractWithBlocks) → Answers p → (0 + p .extract .joined ≤ length ys) × (p .extract .joined ≤ 128)
-  fits p e = (subst (λ (k : ℕ). k ≤ length ys) (sym (zero-add (p .extract .joined))) (extracts p e .fits), extracts p e .few)
+  fits p e = (subst (λ (k : ℕ). k ≤ length ys) (sym (zero-add (p .extract .joined))) (e .fits), e .few)
 
   goes-fill : (p : ExtractWithBlocks) (v : Val) → Answers p → Is P.the-row p (v ∷ []) → ent 𝓤 (sep 𝓤 (A .lft κ q) (sem 𝓤 H A (MutSlice (named 0) κ E.the-row .own out (s ∷ [])))) (Fill 𝓤 H A at-mem run .pre (to-fill p))
   goes-fill p v e is =
