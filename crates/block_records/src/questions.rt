@@ -266,8 +266,7 @@ pub fn keys_refusal(given: Keys) -> Refusal
     if !keys_fit(given) {
         return Refusal::Number(2);
     }
-    let count = given.count;
-    if count <= KEYS_LIMIT {
+    if given.count <= KEYS_LIMIT {
         return Refusal::Absent;
     }
     Refusal::Number(3)

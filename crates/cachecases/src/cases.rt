@@ -1,4 +1,14 @@
 // C1 to C14, one function each.
+use crate::answers::already_extracted;
+use crate::answers::is_synced;
+use crate::answers::last_is;
+use crate::answers::no_last;
+use crate::answers::pop_refused;
+use crate::answers::popped;
+use crate::answers::store_refused;
+use crate::answers::stored;
+use crate::answers::told_no_range;
+use crate::answers::told_range;
 use crate::calls::after;
 use crate::calls::collate;
 use crate::calls::collate_alone;
@@ -14,56 +24,55 @@ use crate::calls::receive_alone;
 use crate::calls::sc;
 use crate::calls::sync;
 use crate::calls::two_tops;
-use crate::left::already_extracted;
-use crate::left::first_shard_mark;
-use crate::left::four_out;
-use crate::left::is_synced;
-use crate::left::last_is;
-use crate::left::mark_is;
-use crate::left::no_ids;
-use crate::left::no_last;
-use crate::left::no_mark;
-use crate::left::no_masters;
-use crate::left::no_range;
-use crate::left::one_id;
-use crate::left::one_master;
-use crate::left::over;
-use crate::left::pop_refused;
-use crate::left::popped;
-use crate::left::shard_blocks;
-use crate::left::shard_marks;
-use crate::left::store_refused;
-use crate::left::stored;
-use crate::left::stored_range;
-use crate::left::stored_without_range;
-use crate::left::two_ids;
-use crate::left::two_masters;
-use crate::left::two_out;
-use crate::left::weight_is;
+use crate::expected::bare_cache;
+use crate::expected::cache;
+use crate::expected::collated;
+use crate::expected::collated_block;
+use crate::expected::entry;
+use crate::expected::group;
+use crate::expected::master;
+use crate::expected::no_entries;
+use crate::expected::no_ids;
+use crate::expected::one_entry;
+use crate::expected::one_id;
+use crate::expected::received;
+use crate::expected::with_emptied_shards;
+use crate::expected::with_shard;
+use crate::same::same_cache;
+use crate::same::same_entry;
 use crate::tally::Tally;
 use block_records::block_id::BlockId;
 use block_records::block_id::BlockIdShort;
 use block_records::block_id::key;
 use block_records::block_id::same_id;
 use block_records::block_id::zero_key;
+use block_records::entry::BlockCacheEntryData;
 use block_records::entry::CandidateStatus;
+use block_records::entry::MasterBlock;
 use block_records::entry::same_status;
+use block_records::entry::zero_entry;
 use block_records::store_records::Keys;
 use block_records::store_records::zero_prev_ids;
+use block_records::top_block::zero_tops;
 use blocks_cache::cache::Cache;
 use blocks_cache::collection::ChangeAnswer;
 use blocks_cache::collection::gc_prev_blocks;
 use blocks_cache::collection::set_gc_to_boundary;
+use blocks_cache::master_data::AppliedRange;
 use blocks_cache::peek::PeekAnswer;
 use blocks_cache::peek::peek_front_applied_mc_block_subgraph;
+use blocks_cache::subgraphs::ArrayExtract;
 use blocks_cache::tail_ids::TailAnswer;
 use blocks_cache::tail_ids::TailIdsRow;
 use blocks_cache::tail_ids::read_before_tail_ids_of_mc_block;
 use blocks_cache::validation::ValidationAnswer;
 use blocks_cache::validation::ValidationStatus;
 use blocks_cache::validation::store_master_block_validation_result;
+use blocks_group::group::Boundary;
+use blocks_group::group::Group;
+use blocks_group::mark::Mark;
 
-// Empty: peek Nothing, pop from 0 number 11, sync m5 AlreadyExtracted with the mark absent.
+// Empty: peek Nothing, pop from 0 number 11, sync m5 AlreadyExtracted; the cache stays empty.
 fn c1() -> bool {
     let start = new();
     let seen = peek_front_applied_mc_block_subgraph(start, 0);
@@ -75,45 +84,59 @@ fn c1() -> bool {
     };
     let out = pop(start, 0);
     let refused = pop_refused(out, 11);
-    let again = sync(start, mc(5));
+    let again = sync(out.extract.cache, mc(5));
     let already = already_extracted(again);
-    let unmarked = no_mark(again.extract.cache);
-    nothing & (refused & (already & unmarked))
+    let left = same_cache(again.extract.cache, new());
+    nothing & (refused & (already & left))
+}
+
+// m5 received and nothing else: range (5,5), mark 5.
+fn m5_alone() -> Cache {
+    let m5 = master(mc(5), received(false));
+    let range = AppliedRange::Over(5, 5);
+    bare_cache(one_entry(m5, Mark::At(5)), no_ids(range))
+}
+
+// m5 collated, of a kind, and its id: no range, no mark.
+fn m5_with(data: BlockCacheEntryData) -> Cache {
+    let m5 = master(mc(5), data);
+    let range = AppliedRange::Absent;
+    bare_cache(one_entry(m5, Mark::Absent), one_id(mc(5), range))
 }
 
 // Receive m5: (no, no), range (5,5), mark 5.
 fn c2() -> bool {
     let r = receive_alone(new(), mc(5));
     let s = stored(r, false, false);
-    let range = stored_range(r, 5, 5);
-    let mark = mark_is(r.cache, 5);
+    let range = told_range(r, 5, 5);
     let ids = no_last(r);
-    s & (range & (mark & ids))
+    let left = same_cache(r.cache, m5_alone());
+    s & (range & (ids & left))
 }
 
-// Again m5, or m4: Synced.
+// Again m5, or m4: Synced, and nothing changes.
 fn c3() -> bool {
     let r = receive_alone(new(), mc(5));
     let again = receive_alone(r.cache, mc(5));
-    let lower = receive_alone(r.cache, mc(4));
+    let lower = receive_alone(again.cache, mc(4));
     let a = is_synced(again);
     let l = is_synced(lower);
-    let range = over(lower.cache, 5, 5);
-    let only = one_master(lower.cache, mc(5));
-    a & (l & (range & only))
+    let left = same_cache(lower.cache, m5_alone());
+    a & (l & left)
 }
 
-// Collate m5: (no, no); m5 or m5' again: 7.
+// Collate m5: (no, no); m5 or m5' again: 7, and nothing changes.
 fn c4() -> bool {
     let r = collate_alone(new(), mc(5));
     let s = stored(r, false, false);
     let last = last_is(r, mc(5));
     let again = collate_alone(r.cache, mc(5));
-    let other = collate_alone(r.cache, mc_other(5));
+    let other = collate_alone(again.cache, mc_other(5));
     let a = store_refused(again, 7);
     let o = store_refused(other, 7);
-    let only = one_master(other.cache, mc(5));
-    s & (last & (a & (o & only)))
+    let kind = collated(CandidateStatus::Collated, false, 0, 0);
+    let left = same_cache(other.cache, m5_with(kind));
+    s & (last & (a & (o & left)))
 }
 
 // Collate m5, receive m5: (yes, no), range (5,5), last id m5.
@@ -121,10 +144,14 @@ fn c5() -> bool {
     let r = collate_alone(new(), mc(5));
     let both = receive_alone(r.cache, mc(5));
     let s = stored(both, true, false);
-    let range = stored_range(both, 5, 5);
+    let range = told_range(both, 5, 5);
     let last = last_is(both, mc(5));
-    let mark = mark_is(both.cache, 5);
-    s & (range & (last & mark))
+    let kind = collated(CandidateStatus::Synced, true, 0, 0);
+    let m5 = master(mc(5), kind);
+    let over = AppliedRange::Over(5, 5);
+    let expected = bare_cache(one_entry(m5, Mark::At(5)), one_id(mc(5), over));
+    let left = same_cache(both.cache, expected);
+    s & (range & (last & left))
 }
 
 // Collate m5, receive m5': (no, yes), range (5,5), no last id.
@@ -132,36 +159,50 @@ fn c6() -> bool {
     let r = collate_alone(new(), mc(5));
     let other = receive_alone(r.cache, mc_other(5));
     let s = stored(other, false, true);
-    let range = stored_range(other, 5, 5);
+    let range = told_range(other, 5, 5);
     let last = no_last(other);
-    let ids = no_ids(other.cache);
-    let only = one_master(other.cache, mc_other(5));
-    s & (range & (last & (ids & only)))
+    let m5 = master(mc_other(5), received(false));
+    let over = AppliedRange::Over(5, 5);
+    let expected = bare_cache(one_entry(m5, Mark::At(5)), no_ids(over));
+    let left = same_cache(other.cache, expected);
+    s & (range & (last & left))
 }
 
-// Receive m5, collate m5': (no, yes), cache unchanged.
+// Receive m5, collate m5': (no, yes), and nothing changes.
 fn c7() -> bool {
     let r = receive_alone(new(), mc(5));
     let other = collate_alone(r.cache, mc_other(5));
     let s = stored(other, false, true);
-    let range = stored_range(other, 5, 5);
+    let range = told_range(other, 5, 5);
     let last = no_last(other);
-    let mark = mark_is(other.cache, 5);
-    let only = one_master(other.cache, mc(5));
-    s & (range & (last & (mark & only)))
+    let left = same_cache(other.cache, m5_alone());
+    s & (range & (last & left))
 }
 
-// Receive m5, collate m5: (yes, no), range absent; pop from 0 gives m5, last.
+// Receive m5, collate m5: (yes, no), range absent; pop from 0 gives m5, last, and its id stays.
 fn c8() -> bool {
     let r = receive_alone(new(), mc(5));
     let both = collate_alone(r.cache, mc(5));
     let s = stored(both, true, false);
-    let range = stored_without_range(both);
+    let range = told_no_range(both);
     let out = pop(both.cache, 0);
-    let p = popped(out, mc(5), 0, 0, true);
-    let gone = no_masters(out.extract.cache);
-    let ids = one_id(out.extract.cache, mc(5));
-    s & (range & (p & (gone & ids)))
+    let m5 = MasterBlock {
+        entry: master(mc(5), received(true)),
+        tops: zero_tops(),
+    };
+    let p = popped(out, m5, 0, 0, true);
+    let none = AppliedRange::Absent;
+    let expected = bare_cache(no_entries(Mark::At(5)), one_id(mc(5), none));
+    let left = same_cache(out.extract.cache, expected);
+    s & (range & (p & left))
+}
+
+// A master as it was received, with no top items.
+fn plain_master(seqno: u32) -> MasterBlock {
+    MasterBlock {
+        entry: master(mc(seqno), received(false)),
+        tops: zero_tops(),
+    }
 }
 
 // Receive m5, m6, m7; pop 0: m5, not last, range (6,7); pop 7: m7, last, range absent, m6 still cached.
@@ -170,14 +211,18 @@ fn c9() -> bool {
     let b = receive_alone(a.cache, mc(6));
     let c = receive_alone(b.cache, mc(7));
     let first = pop(c.cache, 0);
-    let p = popped(first, mc(5), 0, 0, false);
-    let range = over(first.extract.cache, 6, 7);
-    let left = two_masters(first.extract.cache, mc(6), mc(7));
+    let p = popped(first, plain_master(5), 0, 0, false);
+    let m6 = master(mc(6), received(false));
+    let m7 = master(mc(7), received(false));
+    let over = AppliedRange::Over(6, 7);
+    let two = group(m6, m7, zero_entry(), 2, Mark::At(7));
+    let left = same_cache(first.extract.cache, bare_cache(two, no_ids(over)));
     let second = pop(first.extract.cache, 7);
-    let q = popped(second, mc(7), 0, 0, true);
-    let none = no_range(second.extract.cache);
-    let only = one_master(second.extract.cache, mc(6));
-    p & (range & (left & (q & (none & only))))
+    let q = popped(second, plain_master(7), 0, 0, true);
+    let none = AppliedRange::Absent;
+    let expected = bare_cache(one_entry(m6, Mark::At(7)), no_ids(none));
+    let only = same_cache(second.extract.cache, expected);
+    p & (left & (q & only))
 }
 
 fn updated_to(answer: ValidationAnswer, status: CandidateStatus) -> bool {
@@ -212,7 +257,8 @@ fn c10() -> bool {
     let second = store_master_block_validation_result(first.cache, mc(5), twelve);
     let told = second.answer;
     let b = no_change(told);
-    let stands = weight_is(second.cache, 9);
+    let kind = collated(CandidateStatus::Validated, false, 1, 9);
+    let stands = same_cache(second.cache, m5_with(kind));
     let third = store_master_block_validation_result(
         second.cache,
         mc(5),
@@ -220,7 +266,8 @@ fn c10() -> bool {
     );
     let told = third.answer;
     let c = updated_to(told, CandidateStatus::ValidationSkipped);
-    let zero = weight_is(third.cache, 0);
+    let kind = collated(CandidateStatus::ValidationSkipped, false, 0, 0);
+    let zero = same_cache(third.cache, m5_with(kind));
     a & (b & (stands & (c & zero)))
 }
 
@@ -239,22 +286,37 @@ fn is_done(answer: ChangeAnswer) -> bool {
     }
 }
 
+// m7 alone, as it was collated, under the boundary m7; ids 6 and 7.
+fn collected_to_7() -> Cache {
+    let m7 = collated_block(mc(7), zero_prev_ids());
+    let unbound = one_entry(m7, Mark::Absent);
+    let entries = unbound.entries;
+    let masters = Group {
+        entries,
+        count: 1,
+        mark: Mark::Absent,
+        boundary: Boundary::At(key(mc(7))),
+    };
+    let mut data = one_id(mc(6), AppliedRange::Absent);
+    data.ids[1] = mc(7);
+    data.count = 2;
+    bare_cache(masters, data)
+}
+
 // Collate m5, m6, m7; boundary 7, collect: ids 6 and 7 remain.
 fn c11() -> bool {
     let a = collate_alone(new(), mc(5));
     let b = collate_alone(a.cache, mc(6));
     let c = collate_alone(b.cache, mc(7));
-    let short = key(mc(7));
-    let keys = one_key(short);
+    let keys = one_key(key(mc(7)));
     let bound = set_gc_to_boundary(c.cache, keys);
     let told = bound.answer;
     let d = is_done(told);
     let collected = gc_prev_blocks(bound.cache);
     let told = collected.answer;
     let e = is_done(told);
-    let ids = two_ids(collected.cache, mc(6), mc(7));
-    let only = one_master(collected.cache, mc(7));
-    d & (e & (ids & only))
+    let left = same_cache(collected.cache, collected_to_7());
+    d & (e & left)
 }
 
 // Collate s1 (reference 4), s2 (5, previous s1), s3 (5, previous s2); receive m5 with updated top s3, reference 5.
@@ -270,11 +332,18 @@ fn chain() -> Cache {
 // Pop: s2, s3; 3 ids taken; s1 gone; mark 3.
 fn c12() -> bool {
     let out = pop(chain(), 0);
-    let p = popped(out, mc(5), 2, 3, true);
-    let blocks = two_out(out, sc(2), sc(3));
-    let gone = shard_blocks(out.extract.cache, 1, 0);
-    let mark = first_shard_mark(out.extract.cache, 3);
-    p & (blocks & (gone & mark))
+    let m5 = MasterBlock {
+        entry: master(mc(5), received(false)),
+        tops: one_top(sc(3)),
+    };
+    let p = popped(out, m5, 2, 3, true);
+    let a = same_entry(out.blocks[0], collated_block(sc(2), after(sc(1))));
+    let b = same_entry(out.blocks[1], collated_block(sc(3), after(sc(2))));
+    let none = AppliedRange::Absent;
+    let masters = bare_cache(no_entries(Mark::At(5)), no_ids(none));
+    let expected = with_shard(masters, sc(1), no_entries(Mark::At(3)));
+    let left = same_cache(out.extract.cache, expected);
+    p & ((a & b) & left)
 }
 
 // Parent p4; l5 and r5 follow p4, r6 follows r5; all collated naming m5, received with updated tops l5, r6, reference 5.
@@ -288,14 +357,29 @@ fn split() -> Cache {
     e.cache
 }
 
-// Out: r5, p4, r6, l5; 5 ids taken.
+// r5, p4, r6, l5.
+fn split_blocks(out: ArrayExtract) -> bool {
+    let a = same_entry(out.blocks[0], collated_block(high(5), after(sc(4))));
+    let b = same_entry(out.blocks[1], collated_block(sc(4), zero_prev_ids()));
+    let c = same_entry(out.blocks[2], collated_block(high(6), after(high(5))));
+    let d = same_entry(out.blocks[3], collated_block(low(5), after(sc(4))));
+    (a & b) & (c & d)
+}
+
+// Out: r5, p4, r6, l5; 5 ids taken; marks 5, 4 and 6.
 fn c13() -> bool {
     let out = pop(split(), 0);
-    let p = popped(out, mc(5), 4, 5, true);
-    let blocks = four_out(out, high(5), sc(4), high(6), low(5));
-    let gone = shard_blocks(out.extract.cache, 3, 0);
-    let marks = shard_marks(out.extract.cache, 5, 4, 6);
-    p & (blocks & (gone & marks))
+    let m5 = MasterBlock {
+        entry: master(mc(5), received(false)),
+        tops: two_tops(low(5), high(6)),
+    };
+    let p = popped(out, m5, 4, 5, true);
+    let blocks = split_blocks(out);
+    let none = AppliedRange::Absent;
+    let masters = bare_cache(no_entries(Mark::At(5)), no_ids(none));
+    let expected = with_emptied_shards(masters, low(5), sc(4), high(5));
+    let left = same_cache(out.extract.cache, expected);
+    p & (blocks & left)
 }
 
 // A row under an id, with so many previous ids.
@@ -308,8 +392,7 @@ fn row_is(row: TailIdsRow, id: BlockId, count: usize) -> bool {
 
 // As C12 before the pop, tail ids: m5 with none, s2 with [s1].
 fn c14() -> bool {
-    let short = key(mc(5));
-    let r = read_before_tail_ids_of_mc_block(chain(), short);
+    let r = read_before_tail_ids_of_mc_block(chain(), key(mc(5)));
     let answer = r.answer;
     let told = match answer {
         TailAnswer::Rows => true,
@@ -323,7 +406,19 @@ fn c14() -> bool {
     let prev = second.prev_ids;
     let earlier = prev.ids[0];
     let s1 = same_id(earlier, sc(1));
-    told & ((tails.count == 2) & (a & (b & s1)))
+    told & ((tails.count == 2) & (a & (b & (s1 & same_cache(chain(), chained())))))
+}
+
+// The cache of C12 before the pop.
+fn chained() -> Cache {
+    let data = collated(CandidateStatus::Collated, false, 0, 0);
+    let s1 = entry(sc(1), 4, zero_prev_ids(), data);
+    let s2 = collated_block(sc(2), after(sc(1)));
+    let s3 = collated_block(sc(3), after(sc(2)));
+    let m5 = master(mc(5), received(false));
+    let range = AppliedRange::Over(5, 5);
+    let masters = cache(one_entry(m5, Mark::At(5)), one_top(sc(3)), no_ids(range));
+    with_shard(masters, sc(1), group(s1, s2, s3, 3, Mark::Absent))
 }
 
 fn stores_of_one(start: Tally) -> Tally {

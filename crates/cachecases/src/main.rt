@@ -1,7 +1,9 @@
 // Document 01's case table, C1 to C14, run on `blocks_cache`. Prints how many cases ran and how many came out wrong.
+mod answers;
 mod calls;
 mod cases;
-mod left;
+mod expected;
+mod same;
 mod tally;
 
 fn main() {
