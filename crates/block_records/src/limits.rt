@@ -1,4 +1,4 @@
-// The capacities of records, groups and the cache, each with the question that asks for it.
+// RULES.md, Limits: the capacities of records, groups and the cache, each with the question that asks for it.
 
 // Previous ids of a block: question 3.
 pub const PREV_IDS_LIMIT: usize = 2;

@@ -1,4 +1,4 @@
-// Document 01, The gatekeeper's questions: 2 to 4 of a record and of keys, in the order asked.
+// RULES.md, Questions: 2 to 4 of a record and of keys, in their order.
 ghost use mathlib.Core.Path.{_≡_};
 ghost use Rattle.block_records.specs.layout.Questions.{held-entry-fits, held-shard-entry-fits};
 ghost use Rattle.block_records.specs.rules.BlockId.{listed-keys, listed-prev-ids, listed-tops};
@@ -25,7 +25,7 @@ pub enum Refusal {
     Number(u32),
 }
 
-// ===== question 2: is every seqno given below 4,294,967,295? =====
+// ===== question 2: seqnos =====
 
 pub fn seqno_fits(seqno: u32) -> bool
     ensures { λ r. ⌜ r ≡ seqno-fits seqno ⌝ }
@@ -53,7 +53,7 @@ fn top_fits(top: TopBlock) -> bool
     n & i
 }
 
-// Places beyond the count are not looked at; of a count beyond the capacity, all places are.
+// Asked of the ids below the count, of every place where the count is past them.
 fn prev_ids_fit(prev: PrevIds) -> bool
     ensures { λ r. ⌜ r ≡ every id-fits (listed-prev-ids prev) ⌝ }
 {
@@ -123,7 +123,7 @@ fn keys_fit(given: Keys) -> bool
     true
 }
 
-// ===== question 3: do lists fit, and has a shard block no top item? =====
+// ===== question 3: counts =====
 
 // Question 3 of a record's id and the counts of its previous ids and top items.
 fn counts_fit(id: BlockId, previous: usize, tops: usize) -> bool
@@ -137,7 +137,7 @@ fn counts_fit(id: BlockId, previous: usize, tops: usize) -> bool
     p & (t & (m | none))
 }
 
-// ===== question 4: has each previous id a lower seqno than its block and the same side, and is each top outside the masterchain? =====
+// ===== question 4: links =====
 
 fn previous_fits(id: BlockId, previous: BlockId) -> bool
     ensures { λ r. ⌜ r ≡ previous-fits id previous ⌝ }
@@ -206,7 +206,7 @@ fn links_fit(id: BlockId, prev: PrevIds, tops: TopBlocks) -> bool
     p & t
 }
 
-// ===== in the order asked =====
+// ===== the first no =====
 
 // The first of questions 2 to 4 whose answer is no.
 fn record_refusal(id: BlockId, reference: u32, prev: PrevIds, tops: TopBlocks) -> Refusal

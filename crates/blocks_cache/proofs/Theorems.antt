@@ -37,11 +37,11 @@ calls-are-steps = run-by-rules
 
 -- ===== sound caches =====
 
--- The empty cache is sound,
+-- An empty cache is sound,
 pub empty-is-sound : (zerostate : ℕ) → sound-cache (pack (empty-model zerostate)) ≡ true
 empty-is-sound = empty-cache-sound
 
--- and every call leaves a sound cache sound.
+-- and a sound cache is sound after any call.
 pub sound-stays : (c : Cache) (call : Call) → sound-cache c ≡ true → sound-cache (call-on c call .cache) ≡ true
 sound-stays c call ok = claim c ok (call ∷ []) .0 .sound-still
 
@@ -51,11 +51,11 @@ sound-is-packed = sound-cache-packed
 
 -- ===== refusals =====
 
--- A yes to all is never refused.
+-- With no question answered by no, a call does not refuse.
 pub yes-to-all : (c : Cache) (call : Call) → first-no (questions-on c call) ≡ none → refusal (call-on c call .answer) ≡ none
 yes-to-all = yes-to-all-on
 
--- A no gives the number of the first, and changes neither the cache nor the slice, on any cache.
+-- The first no is the answer, by its number; cache and slice stay as they were, whatever the cache.
 pub refusal-changes-nothing : (c : Cache) (call : Call) (n : ℕ) → first-no (questions-on c call) ≡ some n → call-on c call ≡ record { cache = c; answer = refused n; slice = call .lent }
 refusal-changes-nothing = no-leaves
 

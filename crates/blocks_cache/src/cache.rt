@@ -1,4 +1,4 @@
-// Document 01, Whole cache: a cache, and an empty one.
+// RULES.md, The whole cache: a cache, and an empty one.
 ghost use mathlib.Core.Path.{_≡_};
 ghost use Rattle.blocks_cache.specs.layout.Cache.{empty, zero-cache, zero-shard-group};
 use crate::master_data::AppliedRange;
@@ -66,7 +66,7 @@ fn zero_cache(zerostate: u32, count: usize) -> Cache
     }
 }
 
-// An empty cache, made from a zerostate seqno alone.
+// An empty cache for a zerostate seqno, or the refusal of that seqno.
 pub fn empty(zerostate_mc_seqno: u32) -> NewCache
     ensures { λ r. ⌜ r ≡ empty «zerostate_mc_seqno» ⌝ }
 {

@@ -1,4 +1,4 @@
-// Document 01, Whole cache: Set boundary, Collect, Remove next collated.
+// RULES.md, Boundary and collection and Removal of collated blocks: set boundary, collect, remove next collated.
 ghost use mathlib.Core.Path.{_≡_};
 ghost use Rattle.block_records.specs.rules.BlockId.{listed-keys};
 ghost use Rattle.block_records.specs.rules.Lists.{fold};
@@ -59,7 +59,7 @@ fn keys_answer(cache: Cache, given: Keys) -> ChangeAnswer
 
 // ===== set boundary =====
 
-// Each key in turn sets its group's boundary, an unknown shard is skipped. The shards are gathered once: each group stays in its place.
+// Each key becomes the boundary of its shard's group, if there is one. The shards are gathered once: each group stays in its place.
 fn bound_all(cache: Cache, given: Keys) -> Cache
     ensures { λ r. ⌜ r ≡ fold held-bound-one cache (listed-keys given) ⌝ }
 {
@@ -109,7 +109,7 @@ pub fn set_gc_to_boundary(cache: Cache, to_blocks_keys: Keys) -> CacheChange
 
 // ===== collect =====
 
-// Ids below the highest master removed go.
+// The ids from the highest collected master on stay.
 fn drop_collected(data: MasterData, highest: SeqnoOption) -> MasterData
     ensures { λ r. ⌜ r ≡ drop-collected highest «data» ⌝ }
 {
@@ -138,7 +138,7 @@ fn collect_shards(shards: [ShardGroup; SHARDS_LIMIT], count: usize) -> [ShardGro
     out
 }
 
-// Entries below their group's boundary go, and ids with them; the range stays.
+// Every group is collected by its boundary, and ids are dropped by the masters collected; the range stays.
 fn held_collect(cache: Cache) -> Cache
     ensures { λ r. ⌜ r ≡ held-collect cache ⌝ }
 {
@@ -172,7 +172,7 @@ pub fn gc_prev_blocks(cache: Cache) -> CacheChange
 
 // ===== remove next collated =====
 
-// Ids from the lowest master removed on go.
+// The ids below the lowest removed master stay.
 fn drop_removed(data: MasterData, lowest: SeqnoOption) -> MasterData
     ensures { λ r. ⌜ r ≡ drop-removed lowest «data» ⌝ }
 {
@@ -182,7 +182,8 @@ fn drop_removed(data: MasterData, lowest: SeqnoOption) -> MasterData
     }
 }
 
-// Of each key's group in turn the non-Received entries above it go, and with masters their ids; the range stays, an unknown shard is skipped.
+// Each key's group, if there is one, loses the entries above the key's seqno that are not Received; ids are dropped by the masters removed; the range
+// stays.
 fn remove_all(cache: Cache, given: Keys) -> Cache
     ensures { λ r. ⌜ r ≡ fold held-remove-one cache (listed-keys given) ⌝ }
 {

@@ -1,4 +1,4 @@
-// Document 01, Whole cache: Extraction; pop and sync extraction, with the blocks beside the answer and the number of the lent slice's places given.
+// RULES.md, Extraction, Pop and Sync extraction: with the blocks beside the answer and the number of the lent slice's places given.
 ghost use mathlib.Core.Bool.{true};
 ghost use mathlib.Core.Path.{_≡_};
 ghost use Prim.Native.Nat.{_<_, _≤_};
@@ -52,8 +52,7 @@ use blocks_group::queries::any_applied_above;
 use blocks_group::queries::first_applied_master;
 use blocks_group::refresh::refresh_masters;
 
-// What an extraction leaves of the shard groups, the joined blocks (last joined first, zeros after them), how many they are and how many
-// ids were taken.
+// What an extraction leaves of the shard groups, the joined blocks (the newest first, zeros after them), their number and that of the ids taken.
 pub(crate) struct Extraction {
     pub shards: [ShardGroup; SHARDS_LIMIT],
     pub blocks: [BlockCacheEntry; SLICE_PLACES],
@@ -69,7 +68,7 @@ pub(crate) struct WaitingList {
 
 // ===== the starting ids =====
 
-// The top items, in order, that are updated with reference above the zerostate.
+// The listed top items from which extraction starts.
 pub(crate) fn held_starting_items(zerostate: u32, tops: TopBlocks) -> TopBlocks
     ensures { λ r. ⌜ r ≡ pack-tops (held-starting-items zerostate tops) ⌝ }
 {
@@ -201,8 +200,8 @@ fn last_first(
     out
 }
 
-// First in, first out: an entry found leaves the cache. If its reference is M's seqno it joins, its previous ids are queued and its
-// group's mark is refreshed; otherwise it is dropped.
+// The walk: each id that waits is looked up by its key. A block that names M joins, adds its previous ids to the end and refreshes its group's mark;
+// any other block found is lost.
 fn extraction_of(cache: Cache, master: MasterBlock) -> Extraction
     requires { ⌜ sound-cache cache ≡ true ⌝ }
     ensures { λ r. ⌜ r ≡ pack-extraction (extraction-of (view-master master) (view cache)) ⌝ }
@@ -267,7 +266,7 @@ pub enum ExtractAnswer {
     Refused(u32),
 }
 
-// M with its top items, how many blocks joined it and how many ids were taken; zeros where the answer hands out nothing.
+// M with its top items, the number of blocks beside it and of ids taken; zeros where the answer hands out nothing.
 pub struct SubgraphExtract {
     pub answer: ExtractAnswer,
     pub master: MasterBlock,
@@ -301,7 +300,7 @@ fn no_extract(answer: ExtractAnswer, cache: Cache) -> ExtractWithBlocks
     }
 }
 
-// M and its subgraph are handed out: the masters and the range as given, and ids below M's seqno go.
+// M and its subgraph are handed out, with the masters and the range as given; the ids from M's seqno on stay.
 fn hand_out(
     cache: Cache,
     answer: ExtractAnswer,
@@ -335,7 +334,7 @@ fn hand_out(
     ExtractWithBlocks { extract, blocks }
 }
 
-// Pop: the lowest applied master at or above a seqno leaves, and the start moves by it.
+// Pop: the first applied master from a seqno on is taken out, and the range is moved on past it.
 fn pop_with_blocks(cache: Cache, from: u32) -> ExtractWithBlocks
     requires { ⌜ sound-cache cache ≡ true ⌝ }
     ensures { λ r. ⌜ PacksEffect (pop-entry (first-applied from (view cache)) (view cache)) r ⌝ }
@@ -357,7 +356,7 @@ fn pop_with_blocks(cache: Cache, from: u32) -> ExtractWithBlocks
     hand_out(cache, answer, first.block, left, range, extraction)
 }
 
-// If M is applied, the start moves by it.
+// The range moved on past M, if M is applied.
 fn move_applied_start(range: AppliedRange, master: MasterBlock) -> AppliedRange
     ensures { λ r. ⌜ r ≡ move-applied-start range master ⌝ }
 {
@@ -367,7 +366,7 @@ fn move_applied_start(range: AppliedRange, master: MasterBlock) -> AppliedRange
     range
 }
 
-// Sync extraction: the master at a seqno leaves; if it is applied the start moves; the mark's rule is used.
+// Sync extraction: the master at a seqno is taken out and refreshes the mark; if it is applied, the range is moved on past it.
 fn sync_with_blocks(cache: Cache, seqno: u32) -> ExtractWithBlocks
     requires { ⌜ sound-cache cache ≡ true ⌝ }
     ensures { λ r. ⌜ PacksEffect (sync-entry (at-seqno seqno (view cache .masters .entries)) (view cache)) r ⌝ }

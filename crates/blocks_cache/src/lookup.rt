@@ -1,4 +1,4 @@
-// Document 01, Whole cache: the shard block that is cached under a shard and seqno.
+// RULES.md, How it is held: the shard block that is cached under a shard and seqno.
 ghost use mathlib.Core.Path.{_≡_};
 ghost use Rattle.block_records.specs.rules.Lists.{each};
 ghost use Rattle.blocks_cache.specs.arrays.Lookup.{block-place, first-ident-place, first-seqno-place, group-seqnos, no-seqnos, shard-seqnos};
@@ -84,7 +84,7 @@ pub(crate) fn shard_seqnos(shards: [ShardGroup; SHARDS_LIMIT]) -> [GroupSeqnos; 
     out
 }
 
-// ===== the lookup, by shard and seqno alone =====
+// ===== the lookup, by an id's key =====
 
 fn first_ident_place(idents: [ShardIdent; SHARDS_LIMIT], shard: ShardIdent) -> Place
     ensures { λ r. ⌜ r ≡ first-ident-place shard idents ⌝ }

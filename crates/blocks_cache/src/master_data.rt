@@ -1,4 +1,4 @@
-// Document 01, Master data: the last collated ids by seqno, and the applied range.
+// RULES.md, Master data: the last collated ids, and the applied range.
 ghost use mathlib.Core.Path.{_≡_};
 ghost use lib.ListN.{drop, length};
 ghost use Rattle.block_records.specs.arrays.Arrays.{Splices, spliced};
@@ -25,14 +25,14 @@ pub enum AppliedRange {
     Over(u32, u32),
 }
 
-// Up to 32 last collated ids by seqno, and the applied range.
+// The last collated ids by seqno, in 32 places, with the applied range.
 pub struct MasterData {
     pub ids: [BlockId; IDS_LIMIT],
     pub count: usize,
     pub range: AppliedRange,
 }
 
-// The highest last collated id; where there is none, a zero id.
+// The last of the ids; where there is none, a zero id.
 pub struct LastId {
     pub present: bool,
     pub id: BlockId,
@@ -46,7 +46,7 @@ pub enum RetainedIds {
 
 // ===== the applied range =====
 
-// Moving the start by a seqno. There is a next seqno wherever it is taken: the seqno is below the end.
+// The range moved on past a seqno. There is a next seqno wherever it is taken: the seqno is below the end.
 pub(crate) fn moved_start(seqno: u32, range: AppliedRange) -> AppliedRange
     ensures { λ r. ⌜ r ≡ pack-range (moved-start seqno (view-range range)) ⌝ }
 {
@@ -66,7 +66,7 @@ pub(crate) fn moved_start(seqno: u32, range: AppliedRange) -> AppliedRange
     }
 }
 
-// Moving the end.
+// The range with a seqno as its end.
 pub(crate) fn moved_end(seqno: u32, range: AppliedRange) -> AppliedRange
     ensures { λ r. ⌜ r ≡ pack-range (moved-end seqno (view-range range)) ⌝ }
 {
@@ -76,7 +76,7 @@ pub(crate) fn moved_end(seqno: u32, range: AppliedRange) -> AppliedRange
     }
 }
 
-// Range absent or start <= end <= present master mark.
+// Whether the range's start does not pass its end, nor its end the master mark.
 pub(crate) fn sound_range(mark: Mark, range: AppliedRange) -> bool
     ensures { λ r. ⌜ r ≡ sound-range (view-mark mark) (view-range range) ⌝ }
 {
@@ -91,7 +91,7 @@ pub(crate) fn sound_range(mark: Mark, range: AppliedRange) -> bool
 
 // ===== the last collated ids =====
 
-// The highest last collated id.
+// The last id that is listed.
 pub(crate) fn highest_id(data: MasterData) -> LastId
     ensures { λ r. ⌜ r ≡ highest-id «data» ⌝ }
 {
@@ -104,7 +104,7 @@ pub(crate) fn highest_id(data: MasterData) -> LastId
     LastId { present: true, id }
 }
 
-// Whether a seqno is among the last collated ids.
+// Whether a listed id has the seqno.
 fn has_id(data: MasterData, seqno: u32) -> bool
     ensures { λ r. ⌜ r ≡ has-id seqno «data» ⌝ }
 {
@@ -119,7 +119,7 @@ fn has_id(data: MasterData, seqno: u32) -> bool
     false
 }
 
-// Question 9: is the seqno among the last collated ids, or are there under 32?
+// Question 9 of a seqno: an id has it already, or the ids are not full.
 pub(crate) fn has_place_for_id(data: MasterData, seqno: u32) -> bool
     ensures { λ r. ⌜ r ≡ has-place-for-id seqno «data» ⌝ }
 {
@@ -218,7 +218,7 @@ fn retain_ids(data: MasterData, rule: RetainedIds) -> MasterData
     MasterData { ids, count, range }
 }
 
-// Ids below a seqno go.
+// The listed ids from a seqno on.
 pub(crate) fn drop_ids_below(data: MasterData, seqno: u32) -> MasterData
     ensures { λ r. ⌜ r ≡ drop-ids-below seqno «data» ⌝ }
 {
@@ -226,7 +226,7 @@ pub(crate) fn drop_ids_below(data: MasterData, seqno: u32) -> MasterData
     retain_ids(data, rule)
 }
 
-// Ids from a seqno on go.
+// The listed ids below a seqno.
 pub(crate) fn drop_ids_from(data: MasterData, seqno: u32) -> MasterData
     ensures { λ r. ⌜ r ≡ drop-ids-from seqno «data» ⌝ }
 {

@@ -1,4 +1,4 @@
-// Document 01, Whole cache: Peek.
+// RULES.md, Peek: the master that pop would take, and the rows of its starting items.
 ghost use mathlib.Core.Bool.{true};
 ghost use mathlib.Core.Path.{_≡_};
 ghost use Rattle.blocks_cache.specs.declared.peek.MissingTop.the-variants.{At as missing-at};
@@ -24,14 +24,14 @@ use block_records::questions::seqno_fits;
 use block_records::top_block::TopBlocks;
 use blocks_group::queries::first_applied_master;
 
-// Id, reference and payload.
+// What is shown of a block.
 pub struct PeekRow {
     pub block_id: BlockId,
     pub ref_by_mc_seqno: u32,
     pub payload: u64,
 }
 
-// The key of the first top that is not cached naming the master.
+// The key of the first starting item that has no row, if there is one.
 pub enum MissingTop {
     Absent,
     At(BlockIdShort),
@@ -84,7 +84,7 @@ fn zero_peek(answer: PeekAnswer) -> Peek
     }
 }
 
-// The first top that isn't cached naming the master ends the view.
+// The view stops at an item that has no row.
 fn ended_at(rows: [PeekRow; TOPS_LIMIT], count: usize, id: BlockId) -> TopRows
     ensures { λ r. ⌜ r ≡ record { rows = rows; count = count; gap = missing-at (key id) } ⌝ }
 {
@@ -93,7 +93,8 @@ fn ended_at(rows: [PeekRow; TOPS_LIMIT], count: usize, id: BlockId) -> TopRows
     TopRows { rows, count, gap }
 }
 
-// The starting items in order, as long as each is cached naming the master; a row's id and reference are the item's.
+// The rows of the starting items, up to the first whose block is missing or names another master; id and reference are the item's, the payload is the
+// block's.
 fn held_view_tops(cache: Cache, seqno: u32, tops: TopBlocks) -> TopRows
     requires { ⌜ sound-cache cache ≡ true ⌝ }
     ensures { λ r. ⌜ r ≡ pack-view (held-view-tops seqno cache (held-starting-items (cache .«zerostate_mc_seqno») tops)) ⌝ }
@@ -128,7 +129,7 @@ fn held_view_tops(cache: Cache, seqno: u32, tops: TopBlocks) -> TopRows
     TopRows { rows, count, gap }
 }
 
-// The lowest applied master at or above a seqno, and its starting items.
+// The first applied master from a seqno on, and its starting items.
 fn held_peek(cache: Cache, from: u32) -> Peek
     requires { ⌜ sound-cache cache ≡ true ⌝ }
     ensures { λ r. ⌜ r ≡ held-peek from cache ⌝ }

@@ -1,4 +1,4 @@
-// Document 01, Whole cache: up to 8 shard groups, by rising shard.
+// RULES.md, The whole cache: shard groups in 8 places, by shard.
 ghost use mathlib.Core.Path.{_≡_};
 ghost use Prim.Native.Nat.{_<_, _≤_};
 ghost use lib.ListN.{take};

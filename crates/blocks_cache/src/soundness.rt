@@ -1,4 +1,4 @@
-// Document 01, question 1: is the cache sound?
+// RULES.md, Soundness: question 1, of the whole cache.
 ghost use mathlib.Core.Path.{_≡_};
 ghost use lib.ListN.{drop, take};
 ghost use Rattle.block_records.specs.rules.Lists.{every, rising};
@@ -25,7 +25,7 @@ fn is_zero_shard_group(group: ShardGroup) -> bool
     s & g
 }
 
-// No masterchain shard group, and the group sound for its shard.
+// The shard is not of the masterchain, and the group is sound for it.
 fn sound_shard_group(group: ShardGroup) -> bool
     ensures { λ r. ⌜ r ≡ sound-shard-group group ⌝ }
 {
@@ -64,7 +64,7 @@ fn shards_each_sound(shards: [ShardGroup; SHARDS_LIMIT], count: usize) -> bool
     true
 }
 
-// By rising shard: each comes after the one before it.
+// Each shard comes after the one before it.
 fn shards_rise(shards: [ShardGroup; SHARDS_LIMIT], count: usize) -> bool
     ensures { λ r. ⌜ r ≡ rising shard-group-before (take count shards) ⌝ }
 {

@@ -1,4 +1,4 @@
-// Document 01, Master data and Whole cache: the collated and the received store.
+// RULES.md, Collated store, Received store and Master data: the two stores.
 ghost use mathlib.Core.Path.{_≡_};
 ghost use Rattle.blocks_cache.specs.arrays.Stores.{collated-ids, ids-after, nothing-stored, range-end-moved, shard-held, store-candidate, store-master-candidate, store-master-receipt, store-outcome, store-receipt, store-shard-candidate, store-shard-receipt, stored-in, with-masters-and-data, with-shard-group, zeroed-store};
 ghost use Rattle.blocks_cache.specs.layout.Cache.{call-on};
@@ -69,7 +69,7 @@ fn nothing_stored(cache: Cache, answer: StoreAnswer) -> BlockCacheStoreResult
     }
 }
 
-// Stored: with the cache as it is then go its highest last collated id and its range.
+// Stored: with the last id and the range of the cache as it is left.
 fn stored_in(cache: Cache, answer: StoreAnswer) -> BlockCacheStoreResult
     ensures { λ r. ⌜ r ≡ stored-in answer cache ⌝ }
 {
@@ -110,7 +110,7 @@ fn with_shard_group(cache: Cache, group: ShardGroup, data: MasterData) -> Cache
     out
 }
 
-// The group of a shard, an empty one where there is none; for a new shard there is room under 8 groups.
+// The group of a shard, an empty one where there is none; there is room if it has one, or if a further group fits.
 fn shard_held(groups: [ShardGroup; SHARDS_LIMIT], count: usize, shard: ShardIdent) -> ShardHeld
     ensures { λ r. ⌜ r ≡ shard-held shard count groups ⌝ }
 {
@@ -133,7 +133,7 @@ fn shard_held(groups: [ShardGroup; SHARDS_LIMIT], count: usize, shard: ShardIden
 
 // ===== master data =====
 
-// The start is moved, then the id put in.
+// The range moved on past the id, and the id put in.
 fn collated_ids(data: MasterData, id: BlockId) -> MasterData
     ensures { λ r. ⌜ r ≡ collated-ids id «data» ⌝ }
 {
@@ -148,7 +148,7 @@ fn collated_ids(data: MasterData, id: BlockId) -> MasterData
     put_id(started, id)
 }
 
-// On mismatch ids from a seqno on go.
+// On a mismatch the ids below a seqno are left.
 fn ids_after(data: MasterData, mismatch: bool, seqno: u32) -> MasterData
     ensures { λ r. ⌜ r ≡ ids-after mismatch seqno «data» ⌝ }
 {
@@ -158,7 +158,7 @@ fn ids_after(data: MasterData, mismatch: bool, seqno: u32) -> MasterData
     data
 }
 
-// The end is moved.
+// The range with a seqno as its end.
 fn range_end_moved(data: MasterData, seqno: u32) -> MasterData
     ensures { λ r. ⌜ r ≡ range-end-moved seqno «data» ⌝ }
 {
@@ -174,7 +174,7 @@ fn range_end_moved(data: MasterData, seqno: u32) -> MasterData
 
 // ===== the collated store =====
 
-// A master: where the group's store inserts or updates, the start is moved and the id put in.
+// A master: where the group's store changes it, the range is moved on past it and its id is put in.
 fn store_master_candidate(cache: Cache, candidate: BlockCandidate) -> BlockCacheStoreResult
     ensures { λ r. ⌜ r ≡ store-master-candidate candidate cache ⌝ }
 {
@@ -254,7 +254,7 @@ pub fn store_collated(cache: Cache, candidate: BlockCandidate) -> BlockCacheStor
 
 // ===== the received store =====
 
-// A master that is not Synced: the end is moved, and on mismatch ids from its seqno on go.
+// A master that is not Synced becomes the range's end; on a mismatch the ids below its seqno are left.
 fn store_master_receipt(cache: Cache, received: ReceivedBlock) -> BlockCacheStoreResult
     ensures { λ r. ⌜ r ≡ store-master-receipt received cache ⌝ }
 {
@@ -274,7 +274,7 @@ fn store_master_receipt(cache: Cache, received: ReceivedBlock) -> BlockCacheStor
     stored_in(new, answer)
 }
 
-// A shard block that is not Synced: on mismatch ids from its reference seqno on go.
+// A shard block that is not Synced: on a mismatch the ids below its reference seqno are left.
 fn store_shard_receipt(cache: Cache, received: ReceivedBlock) -> BlockCacheStoreResult
     ensures { λ r. ⌜ r ≡ store-shard-receipt received cache ⌝ }
 {

@@ -1,4 +1,4 @@
-// Document 01, Whole cache: blocks go to the front of a lent slice of records; the rest is untouched.
+// RULES.md, Pop and Sync extraction: the blocks are written into a lent slice, from its first place on.
 ghost use mathlib.Core.Path.{_≡_};
 ghost use Prim.Native.Nat.{_+_, _≤_};
 ghost use lib.ListN.{drop, length, take};
@@ -27,7 +27,7 @@ fn fill(out: &mut [BlockCacheEntry], at: usize, blocks: [BlockCacheEntry; SLICE_
     }
 }
 
-// A request's extraction; the blocks go to the front of the lent slice.
+// A request's extraction, with its blocks written into the lent slice.
 pub(crate) fn extract_mc_block_subgraph(
     cache: Cache,
     request: ExtractRequest,

@@ -1,4 +1,4 @@
-// Document 01, Whole cache: Tail ids.
+// RULES.md, Tail ids: the walk, and the rows that come of it.
 ghost use mathlib.Core.Bool.{true};
 ghost use mathlib.Core.List.{[], _∷_};
 ghost use mathlib.Core.Path.{_≡_};
@@ -53,7 +53,7 @@ pub struct TailIdsRow {
     pub prev_ids: PrevIds,
 }
 
-// The rows by rising shard; at most 17.
+// The rows in 17 places, by shard.
 pub struct TailRows {
     pub rows: [TailIdsRow; ROWS_LIMIT],
     pub count: usize,
@@ -140,7 +140,7 @@ fn put_row_at(tails: TailRows, at: usize, from: usize, row: TailIdsRow) -> TailR
     TailRows { rows, count }
 }
 
-// Whether an id is less than another, absent being least.
+// Whether an id comes before another; an absent one comes before all that are present.
 fn less_last(a: LastId, b: LastId) -> bool
     ensures { λ r. ⌜ r ≡ less-last a b ⌝ }
 {
@@ -148,7 +148,7 @@ fn less_last(a: LastId, b: LastId) -> bool
     b.present & (!a.present | less)
 }
 
-// The pair held is replaced if its id is absent, or if the new id is less.
+// Whether an id takes the place of one held: that one is absent, or this one comes before it.
 fn replaces_last(id: LastId, held: LastId) -> bool
     ensures { λ r. ⌜ r ≡ replaces-last id held ⌝ }
 {
@@ -156,7 +156,8 @@ fn replaces_last(id: LastId, held: LastId) -> bool
     !held.present | less
 }
 
-// The pair held for the row's shard is replaced if its id is absent, or if the new id is less. Where 17 are listed and none is of the shard, nothing changes.
+// The row goes to its shard's place, if none is held there or its id takes the place of the one held. Where 17 are listed and none is of the shard,
+// nothing changes.
 fn hold_row(tails: TailRows, row: TailIdsRow) -> TailRows
     ensures { λ r. ⌜ r ≡ hold-row row tails ⌝ }
 {
@@ -182,7 +183,7 @@ fn hold_row(tails: TailRows, row: TailIdsRow) -> TailRows
 
 // ===== what an id gives =====
 
-// Of a cached block: the asked id and its previous ids.
+// Of a cached block: the id that was looked up, and the block's previous ids.
 fn cached_row(id: BlockId, prev_ids: PrevIds) -> TailIdsRow
     ensures { λ r. ⌜ r ≡ cached-row id «prev_ids» ⌝ }
 {
@@ -195,7 +196,7 @@ fn cached_row(id: BlockId, prev_ids: PrevIds) -> TailIdsRow
     }
 }
 
-// Of a missing top: absent, and the top itself.
+// Of a top that is not cached: no id, and the top itself as the previous one.
 fn missing_row(id: BlockId) -> TailIdsRow
     ensures { λ r. ⌜ r ≡ missing-row id ⌝ }
 {
@@ -326,7 +327,7 @@ fn one_row(row: TailIdsRow) -> TailRows
     TailRows { rows, count: 1 }
 }
 
-// All tops in turn, after the master's own row. A missing top gives itself; seqno 0 is skipped.
+// The tops one by one, after the master's own row; one of seqno 0 gives nothing.
 fn take_tops(cache: Cache, mc_seqno: u32, first: TailIdsRow, tops: TopBlocks) -> TailWalk
     requires { ⌜ sound-cache cache ≡ true ⌝ }
     ensures { λ r. ⌜ r ≡ pack-walk (fold (take-tail-id cache «mc_seqno» true) (first-state first) (each top-id (listed-tops tops))) ⌝ }
@@ -373,7 +374,7 @@ fn take_tops(cache: Cache, mc_seqno: u32, first: TailIdsRow, tops: TopBlocks) ->
     }
 }
 
-// Then each id that was queued, first in, first out. A cached block that names the master gives its row, held in place where its shard has one.
+// Then each id of the queue from its front. A cached block that names the master gives its row, held in place where its shard has one.
 fn take_queued(cache: Cache, mc_seqno: u32, walk: TailWalk) -> TailRows
     requires { ⌜ (sound-cache cache ≡ true) × (walk .count ≤ 256) × (walk ≡ pack-walk (walk-state walk)) ⌝ }
     ensures { λ r. ⌜ r ≡ take-queued 256 cache «mc_seqno» 0 (walk-state walk) .tails ⌝ }
@@ -445,7 +446,7 @@ fn no_tails(answer: TailAnswer) -> TailIds
     TailIds { answer, tails }
 }
 
-// At or below the zerostate there is no row; else the master at that seqno is asked for, and its rows.
+// No row up to the zerostate's seqno; above it the rows of the master at the seqno.
 fn read_tails(cache: Cache, seqno: u32) -> TailIds
     requires { ⌜ sound-cache cache ≡ true ⌝ }
     ensures { λ r. ⌜ r ≡ read-tails seqno cache ⌝ }

@@ -1,4 +1,4 @@
-// Document 01, Whole cache: Validation.
+// RULES.md, Validation: the outcome of a validation brought to the master at its seqno.
 ghost use mathlib.Core.Path.{_≡_};
 ghost use Rattle.blocks_cache.specs.arrays.Cache.{with-master-group};
 ghost use Rattle.blocks_cache.specs.arrays.Validation.{pack-kind, validate-master, validation-outcome, view-validation};
@@ -77,7 +77,7 @@ fn result_weight(status: ValidationStatus) -> u64
     }
 }
 
-// Received, Synced or the same status stay; else status, handle and weight are set.
+// The kind with the validation's status, handle and weight; one that is Received, Synced or of that status already stays.
 fn validated_kind(status: ValidationStatus, data: BlockCacheEntryData) -> ValidatedKind
     ensures { λ r. ⌜ r ≡ pack-kind «data» (validated-kind (view-validation status) «data») ⌝ }
 {
@@ -127,7 +127,7 @@ fn with_master_group(cache: Cache, masters: MasterGroup) -> Cache
     out
 }
 
-// The master entry at the id's seqno; the rest of the id is not looked at.
+// The master is looked up by the id's seqno alone.
 fn validate_master(cache: Cache, seqno: u32, status: ValidationStatus) -> ValidationResult
     ensures { λ r. ⌜ r ≡ validate-master seqno (view-validation status) cache ⌝ }
 {

@@ -1,4 +1,4 @@
-// Document 01, Group: up to 16 entries by rising seqno. The master group has its blocks' top items beside it, in the same places.
+// RULES.md, Groups: entries in 16 places, by seqno. The master group has its blocks' top items beside it, in the same places.
 ghost use mathlib.Core.Bool.{false};
 ghost use mathlib.Core.Path.{_≡_};
 ghost use lib.ListN.{length, take};

@@ -1,4 +1,4 @@
-// Document 01, Group: the synced mark and its rule.
+// RULES.md, Groups: the synced mark and its rule.
 ghost use mathlib.Core.Path.{_≡_};
 ghost use Rattle.blocks_group.specs.arrays.Store.{known-synced};
 ghost use Rattle.blocks_group.specs.layout.Group.{check-mark, pack-mark, view-mark};
@@ -41,7 +41,7 @@ pub fn refreshed_mark(seqno: u32, mark: Mark) -> Mark
     }
 }
 
-// The mark's rule: the mark where it is at the seqno or above, else none.
+// What the rule gives: the mark if it reaches the seqno, else none.
 fn given_mark(seqno: u32, mark: Mark) -> Mark
     ensures { λ r. ⌜ r ≡ pack-mark (given-mark seqno (view-mark mark)) ⌝ }
 {

@@ -1,4 +1,4 @@
-// Document 01, Whole cache: what pop, peek, collect and remove next collated ask of one group.
+// RULES.md, Pop, Peek, Boundary and collection and Removal of collated blocks: what they ask of one group.
 ghost use mathlib.Core.Path.{_≡_};
 ghost use lib.Dec.{ltb};
 ghost use Rattle.block_records.specs.rules.Lists.{pick};
@@ -41,7 +41,7 @@ fn held_applied_above(entry: BlockCacheEntry, seqno: u32) -> bool
     (seqno < entry.block_id.seqno) & applied
 }
 
-// The place of the first applied entry at or above a seqno.
+// The place of the first applied entry from a seqno on.
 fn first_applied_place(group: Group, from: u32) -> Place
     ensures { λ r. ⌜ r ≡ first-applied-place from group ⌝ }
 {
@@ -59,7 +59,7 @@ fn first_applied_place(group: Group, from: u32) -> Place
     Place::Vacant(i)
 }
 
-// The lowest applied master at or above a seqno, with its top items.
+// The master block of that place, with its top items.
 pub fn first_applied_master(masters: MasterGroup, from: u32) -> MasterAt
     ensures { λ r. ⌜ r ≡ first-applied-master from masters ⌝ }
 {
@@ -72,7 +72,7 @@ pub fn first_applied_master(masters: MasterGroup, from: u32) -> MasterAt
     MasterAt { found, block }
 }
 
-// Whether an applied entry lies above a seqno.
+// Whether some entry above a seqno is applied.
 pub fn any_applied_above(group: Group, seqno: u32) -> bool
     ensures { λ r. ⌜ r ≡ any-applied-above seqno group ⌝ }
 {
@@ -90,7 +90,7 @@ pub fn any_applied_above(group: Group, seqno: u32) -> bool
     false
 }
 
-// ===== collect: entries below the boundary go =====
+// ===== collect =====
 
 // One entry more: its seqno if it is below the limit and above the best so far.
 fn higher_below(best: SeqnoOption, seqno: u32, limit: u32) -> SeqnoOption
@@ -163,7 +163,7 @@ pub fn collect_masters(masters: MasterGroup) -> MasterGroup
     retain_masters(masters, rule)
 }
 
-// ===== remove next collated: non-Received entries above a seqno go =====
+// ===== remove next collated =====
 
 fn held_collated_above(entry: BlockCacheEntry, seqno: u32) -> bool
     ensures { λ r. ⌜ r ≡ held-collated-above seqno entry ⌝ }

@@ -1,4 +1,4 @@
-// Document 01, Group: the mark is refreshed in the group that the caller lends.
+// RULES.md, Groups: a lent group's mark is refreshed in place.
 ghost use mathlib.Core.Path.{_≡_};
 ghost use Rattle.blocks_group.specs.arrays.Store.{refresh-group, refresh-masters};
 ghost use Rattle.blocks_group.specs.layout.Group.{check-mark};

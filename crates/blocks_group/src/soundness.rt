@@ -1,4 +1,4 @@
-// Document 01, question 1 of one group: order, counts and shards, its boundary, questions 2 to 4 of every entry, zeros in unused places.
+// RULES.md, Soundness: of one group, by its counts, entries, boundary and the places after its entries.
 ghost use mathlib.Core.Path.{_≡_};
 ghost use Rattle.block_records.specs.rules.BlockId.{is-masterchain};
 ghost use Rattle.block_records.specs.rules.Lists.{every, rising};
@@ -88,7 +88,7 @@ fn seqnos_rise(group: Group) -> bool
     true
 }
 
-// ===== zeros in unused places =====
+// ===== zeros after what is listed =====
 
 fn entries_zero_beyond(group: Group) -> bool
     ensures { λ r. ⌜ r ≡ entries-zero-beyond (group .count) (group .entries) ⌝ }

@@ -1,4 +1,4 @@
-// Document 01, Group: the collated and the received store of one group. A shard's group and the master group share their steps.
+// RULES.md, Collated store and Received store: the two stores of one group. A shard's group and the master group share their steps.
 ghost use mathlib.Core.Option.{none, some};
 ghost use mathlib.Core.Path.{_≡_};
 ghost use Rattle.blocks_group.specs.arrays.Group.{when-found};
@@ -99,7 +99,7 @@ fn kept_step(both: bool, mismatch: bool, block: MasterBlock) -> StoreStep
     }
 }
 
-// The kind once the block is collated too: a shard entry takes the processed-to anchor.
+// The kind once the block is collated too; a shard block keeps the candidate's processed-to anchor in it.
 fn collated_kind(c: BlockCandidate, data: BlockCacheEntryData) -> BlockCacheEntryData
     ensures { λ r. ⌜ r ≡ collated-kind c «data» ⌝ }
 {
@@ -155,7 +155,7 @@ fn with_block_data(block: MasterBlock, data: BlockCacheEntryData) -> MasterBlock
     MasterBlock { entry, tops }
 }
 
-// The collated store, by whether there is room for one more entry and what stands at the candidate's seqno.
+// The collated store, by whether the group has a place left and what stands at the candidate's seqno.
 fn collated_step(c: BlockCandidate, room: bool, found: Place, block: MasterBlock) -> StoreStep
     ensures { λ r. ⌜ r ≡ pack-step block (collated-step c room (when-found found block)) ⌝ }
 {
@@ -179,7 +179,7 @@ fn collated_step(c: BlockCandidate, room: bool, found: Place, block: MasterBlock
     stored_step(true, false, both)
 }
 
-// The received store, once the mark's rule gave no mark.
+// The received store of a block that is not synced, by the same two.
 fn received_step(
     zerostate: u32,
     r: ReceivedBlock,
@@ -212,7 +212,7 @@ fn received_step(
 
 // ===== the stores =====
 
-// Whether the mark's rule gives a mark of this group.
+// Whether the group's mark reaches the seqno.
 fn group_synced(group: Group, seqno: u32) -> bool
     ensures { λ r. ⌜ r ≡ group-synced seqno group ⌝ }
 {

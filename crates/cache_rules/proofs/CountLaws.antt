@@ -79,7 +79,7 @@ times-counted : (k n m : ℕ) (w : Walk) → Counted n w → Counted n (take-tim
 times-counted zero n m w h = h
 times-counted (suc k) n m w h = times-counted k n m (take-one m w) (id-counted n m w (w .waiting) refl h)
 
--- the starting ids plus the previous ids of every joined block
+-- an id is taken for each starting id and for each previous id of a block that joined
 pub taken-count : (m : ℕ) (ids : List BlockId) (gs : List ShardModel) → extract m ids gs .taken ≡ length ids + previous-in (extract m ids gs .joined)
 taken-count m ids gs =
     let w₀ : Walk = record { waiting = ids; shards = gs; joined = []; taken = 0 } in
@@ -176,7 +176,7 @@ shards-blocks (x ∷ gs) h =
     let g = shard-parts x (and-left (sound-shard-model x) (every sound-shard-model gs) h) in
     omega (arith, ih, leb-true (length (x .group .entries)) 16 (g .count))
 
--- 264 waiting places suffice: at any time no more ids have been in the list
+-- at any time no more than 264 ids have been in the list
 pub places-suffice : (k : ℕ) (m : Model) (M : Entry) → sound-model m ≡ true → entry-fits M ≡ true →
     let w : Walk = take-times k (M .id .seqno) (first-walk (starting-ids (m .zerostate) M) (m .shards)) in
     w .taken + length (w .waiting) ≤ 264

@@ -1,4 +1,4 @@
--- A yes to all is never refused; a no gives the number of the first, and leaves cache and slice.
+-- A call refuses by the first no only, with its number, and then leaves model and slice.
 -- Assumes nothing.
 use mathlib.Core.Bool.{true}
 use mathlib.Core.Option.{Option, none, some}

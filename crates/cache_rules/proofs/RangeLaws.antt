@@ -1,4 +1,4 @@
--- Every request leaves the applied range absent, or with start ≤ end ≤ the present master mark.
+-- After every request the applied range is absent, or its start does not pass its end, nor its end the master mark.
 -- Assumes nothing.
 use mathlib.Core.Bool.{Bool, _&&_, false, not}
 use mathlib.Core.List.{List, [], _∷_}

@@ -1,4 +1,4 @@
--- The empty cache is sound, and every call leaves a sound cache sound.
+-- An empty cache is sound, and a sound one is sound after any call.
 -- Assumes nothing.
 use mathlib.Core.Bool.{not, true}
 use mathlib.Core.List.{List, [], _∷_}

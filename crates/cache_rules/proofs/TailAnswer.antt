@@ -131,7 +131,7 @@ module _ (m : Model) (ok : sound-model m ≡ true) (M : Entry) where
   abbrev deep-ids : List BlockId
   deep-ids = deep (highest (top-ids M)) gs mm ids₁
 
-  -- the answer is the same if each queued id is taken once
+  -- the walk that takes each queued id once gives the same rows
   pub tails-same : tails-once gs M ≡ tails-of gs M
   tails-same =
       let d = highest (top-ids M) in

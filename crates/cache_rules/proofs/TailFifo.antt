@@ -1,4 +1,4 @@
--- The literal first-in first-out walk gives one answer only.
+-- The walk as a queue gives one answer only.
 -- Assumes nothing.
 use mathlib.Core.Bool.{false}
 use mathlib.Core.List.{List, [], _++_, _∷_}

@@ -1,4 +1,4 @@
--- The tail ids' walk by levels is the first-in first-out walk; and it takes, below the tops, exactly the ids queued as previous ids.
+-- The tail ids' walk by levels is the walk as a queue; and it takes, below the tops, exactly the ids that were queued.
 -- Assumes nothing.
 use mathlib.Core.Bool.{Bool, false, true}
 use mathlib.Core.List.{List, List·Memᴰ, List·Memᴰ·append-cases, List·Memᴰ·cases-cons, List·Memᴰ·head, List·Memᴰ·not-nil, List·Memᴰ·tail, Memᴰ·append-left, Memᴰ·append-right, [], _++_, _∷_, append-assoc, append-nil}

@@ -51,11 +51,11 @@ sound-stays = step-sound
 
 -- ===== refusals =====
 
--- A yes to all is never refused.
+-- With no question answered by no, a step does not refuse.
 pub yes-to-all : (m : Model) (call : Call) → first-no (questions m call) ≡ none → refusal (step m call .answer) ≡ none
 yes-to-all = never-refused
 
--- A no gives the number of the first, and changes neither the model nor the slice.
+-- The first no is the answer, by its number; model and slice stay as they were.
 pub refusal-changes-nothing : (m : Model) (call : Call) (n : ℕ) → first-no (questions m call) ≡ some n → step m call ≡ record { model = m; answer = refused n; slice = call .lent }
 refusal-changes-nothing = refused-unchanged
 
@@ -66,7 +66,7 @@ seven-is-never-met = received-never-meets-7
 
 -- ===== extraction =====
 
--- 264 waiting places suffice: after any number of turns, those taken and those that wait are no more.
+-- The waiting list needs no more than 264 places: after any number of turns, those taken and those that wait are no more.
 pub waiting-places-suffice : (k : ℕ) (m : Model) (M : Entry) → sound-model m ≡ true → entry-fits M ≡ true →
     let w : Walk = take-times k (M .id .seqno) (first-walk (starting-ids (m .zerostate) M) (m .shards)) in
     w .taken + length (w .waiting) ≤ waiting-places
@@ -76,14 +76,14 @@ waiting-places-suffice = places-suffice
 pub slice-places-suffice : (m : Model) (M : Entry) → sound-model m ≡ true → length (extraction-of M m .joined) ≤ slice-places
 slice-places-suffice = records-suffice
 
--- The ids taken are the starting ids and the previous ids of every block that joined.
+-- An id is taken for each starting item and for each previous id of a block that joined.
 pub ids-taken : (m : Model) (M : Entry) → extraction-of M m .taken ≡ length (starting-ids (m .zerostate) M) + previous-in (extraction-of M m .joined)
 ids-taken m M = taken-count (M .id .seqno) (starting-ids (m .zerostate) M) (m .shards)
 
 -- ===== tail ids =====
 
 module _ (m : Model) (ok : sound-model m ≡ true) (M : Entry) where
-  -- The rows are those of the first-in first-out walk, however it is shown.
+  -- The rows are those of the walk as a queue, however it is shown.
   pub tail-ids-are-the-walk's : (rows : List TailRow) → Fifo (m .shards) (M .id .seqno) (each (waits true) (top-ids M)) rows → fold hold (first-row M ∷ []) rows ≡ tails-of (m .shards) M
   tail-ids-are-the-walk's = tails-literal m ok M
 

@@ -1,4 +1,4 @@
--- Document 01, Whole cache: what can be asked of a cache, and what it answers.
+-- RULES.md, The whole cache and Answers: what can be asked of a cache, and what it answers.
 -- Assumes nothing.
 use mathlib.Core.Bool.{Bool}
 use mathlib.Core.List.{List, []}
@@ -15,10 +15,12 @@ use Rattle.block_records.specs.rules.Entry.{Entry}
 use Rattle.block_records.specs.rules.Lists.{last}
 use Rattle.cache_rules.specs.Model.{Model, Range}
 
+-- the outcome of a validation: complete, with its signature handle and total weight, or skipped
 pub data Validation : Type 0 where
   complete : (handle weight : ℕ) → Validation
   skipped : Validation
 
+-- what is asked of a cache, with its arguments
 pub data Request : Type 0 where
   store-collated : BlockCandidate → Request
   store-received : ReceivedBlock → Request
@@ -40,19 +42,19 @@ pub record Call : Type 0 where
 abbrev pub unlent : Request → Call
 unlent q = record { request = q; lent = [] }
 
--- M, how many shard blocks joined it, and how many ids were taken from the waiting list
+-- M, the number of shard blocks beside it, and the number of ids that the walk took
 pub record Extract : Type 0 where
   pub block : Entry
   pub joined : ℕ
   pub taken : ℕ
 
--- id, reference and payload
+-- what a peek shows of a block
 pub record Row : Type 0 where
   pub id : BlockId
   pub reference : ℕ
   pub payload : ℕ
 
--- the rows of a peek below M's, and the key of the first top that is not cached naming M
+-- what a peek shows of the starting items: a row for each up to the first that gives none, and that one's key
 pub record View : Type 0 where
   pub rows : List Row
   pub missing : Option BlockIdShort
@@ -63,6 +65,7 @@ pub record TailRow : Type 0 where
   pub id : Option BlockId
   pub previous : List BlockId
 
+-- what a cache answers: the number of a question whose answer is no, or one of the request's own cases
 pub data Answer : Type 0 where
   refused : ℕ → Answer
   stored : (both mismatch : Bool) → Option BlockId → Option Range → Answer

@@ -1,5 +1,6 @@
--- The case table: C1 to C14 as one computed claim over one list, of the rules themselves. Of each case it states every answer, the blocks that are handed out and the model that
--- is left, all of them whole: entries with their kinds, flags, previous ids, top items, anchors and payloads, marks, boundaries, ids and range.
+-- RULES.md, Case table: C1 to C14, computed by the rules in one equation. Of each case it states every answer, the blocks that are handed out and the
+-- model that is left, all of them whole: entries with their kinds, flags, previous ids, top items, anchors and payloads, marks, boundaries, ids and
+-- range.
 -- Assumes nothing.
 use mathlib.Core.Bool.{Bool, false, true}
 use mathlib.Core.List.{List, [], _++_, _∷_}
@@ -33,6 +34,7 @@ pub data Shown : Type 0 where
   is-answer : Answer → Shown
   is-out : Entry → List BlockCacheEntry → ℕ → Bool → Shown
 
+-- the flag of a pop's answer; false of any other answer
 pub is-popped-last : Answer → Bool
 is-popped-last (popped x last) = last
 is-popped-last (refused n) = false
@@ -47,42 +49,52 @@ is-popped-last (peeked row v) = false
 is-popped-last (tail-ids rows) = false
 is-popped-last done = false
 
+-- an answer, with the first records of the slice where it hands out blocks
 pub show : List BlockCacheEntry → Answer → Option Extract → Shown
 show out a none = is-answer a
 show out a (some x) = is-out (x .block) (take (x .joined) out) (x .taken) (is-popped-last a)
 
+-- what the table looks at of an outcome
 pub shown : Outcome → Shown
 shown o = show (o .slice) (o .answer) (handed (o .answer))
 
+-- an answer for each call, and the model after the last
 pub record Came : Type 0 where
   pub answers : List Shown
   pub leaves : Model
 
+-- calls on an empty cache of zerostate 0, and what is expected
 pub record Case : Type 0 where
   pub calls : List Call
   pub expected : Came
 
+-- what the rules make of the calls
 pub came : Case → Came
 came c = record { answers = each shown (run (empty-model 0) (c .calls)); leaves = after (empty-model 0) (c .calls) }
 
+-- what is expected of them
 pub due : Case → Came
 due c = c .expected
 
+-- a case of calls, answers and the model left
 pub case : List Call → List Shown → Model → Case
 case cs xs m = record { calls = cs; expected = record { answers = xs; leaves = m } }
 
 -- ===== the answers, entries and models that it speaks of =====
 
+-- a range from a to b
 pub rng : ℕ → ℕ → Option Range
 rng a b = some (record { start = a; end = b })
 
+-- a refusal
 pub is-refused : ℕ → Shown
 is-refused n = is-answer (refused n)
 
+-- a store's answer: both, mismatch, last collated id, range
 pub is-stored : Bool → Bool → Option BlockId → Option Range → Shown
 is-stored both mismatch i r = is-answer (stored both mismatch i r)
 
--- (no, no)
+-- a store's answer with neither flag
 pub nn : Option BlockId → Option Range → Shown
 nn i r = is-stored false false i r
 
@@ -91,17 +103,19 @@ pub entry-of : BlockId → ℕ → List BlockId → List TopBlock → BlockCache
 entry-of i reference previous tops kind =
     record { id = i; previous = previous; tops = tops; anchor = Absent; reference = reference; payload = 0; kind = kind }
 
--- as it was collated; as it was received
+-- the kind of a block just collated, with processed-to anchor 0
 pub as-collated : BlockCacheEntryData
 as-collated = collated Collated false 0 0 0
 
+-- the kind of a block just received
 pub as-received : BlockCacheEntryData
 as-received = received false Absent
 
--- a master of the table, collated with reference 5; received with these top items
+-- a master of the table, collated with reference 5
 pub collated-master : BlockId → Entry
 collated-master i = entry-of i 5 [] [] as-collated
 
+-- a master of the table, received with these top items
 pub received-master : BlockId → List TopBlock → Entry
 received-master i tops = entry-of i (i .seqno) [] tops as-received
 
@@ -109,31 +123,39 @@ received-master i tops = entry-of i (i .seqno) [] tops as-received
 pub model-of : Option Range → Option ℕ → List Entry → List BlockId → List ShardModel → Model
 model-of r k ms is gs = record { zerostate = 0; masters = record { entries = ms; mark = k; boundary = none }; ids = is; range = r; shards = gs }
 
+-- the group of a block's shard, with these entries and this mark, no boundary
 pub shard-of : BlockId → List Entry → Option ℕ → ShardModel
 shard-of i es k = record { shard = id-shard i; group = record { entries = es; mark = k; boundary = none } }
 
+-- the block of seqno n in the left half of workchain 0
 pub lcol : ℕ → BlockId
 lcol n = block (pos 0) 0x4000_0000_0000_0000 n 1
 
+-- the block of seqno n in the right half of workchain 0
 pub rcol : ℕ → BlockId
 rcol n = block (pos 0) 0xc000_0000_0000_0000 n 1
 
--- C12 before the pop: s1, s2 and s3 collated, m5 received with the updated top s3
+-- C12 without its pop: s1, s2 and s3 are collated, m5 is received with the updated top s3
 pub chain : List Call
 chain = cand (sc 1) 4 [] [] ∷ cand (sc 2) 5 (sc 1 ∷ []) [] ∷ cand (sc 3) 5 (sc 2 ∷ []) [] ∷ recv (mc 5) (top 5 (sc 3) ∷ []) ∷ []
 
+-- what those calls answer
 pub chain-answers : List Shown
 chain-answers = nn none none ∷ nn none none ∷ nn none none ∷ nn none (rng 5 5) ∷ []
 
+-- s1 of C12 as it is cached: it names m4
 pub s1 : Entry
 s1 = entry-of (sc 1) 4 [] [] as-collated
 
+-- s2, which follows s1 and names m5
 pub s2 : Entry
 s2 = entry-of (sc 2) 5 (sc 1 ∷ []) [] as-collated
 
+-- s3, which follows s2 and names m5
 pub s3 : Entry
 s3 = entry-of (sc 3) 5 (sc 2 ∷ []) [] as-collated
 
+-- m5, with its top item s3
 pub m5 : Entry
 m5 = received-master (mc 5) (top 5 (sc 3) ∷ [])
 
@@ -147,6 +169,7 @@ m5-with k = model-of none none (entry-of (mc 5) 5 [] [] k ∷ []) (mc 5 ∷ []) 
 
 -- ===== the table =====
 
+-- the cases; C8, C9 and C10 are two lists of calls each
 pub table : List Case
 table =
     -- C1
@@ -208,6 +231,7 @@ table =
     (model-of (rng 5 5) (some 5) (m5 ∷ []) [] (shard-of (sc 1) (s1 ∷ s2 ∷ s3 ∷ []) none ∷ []))
     ∷ []
 
+-- every case comes out as expected
 pub cases : each came table ≡ each due table
 unfolding step same-shard less-shard same-id less-id is-masterchain run after sound-model effect further padded zero-id zero-top zero-entry hash block mc mc′ sc candidate ask-call cand coll recv top slice pop-call sync-call keys is-popped-last show shown came due case rng is-refused is-stored nn entry-of as-collated as-received collated-master received-master model-of shard-of lcol rcol chain chain-answers s1 s2 s3 m5 m5-alone m5-with table
 cases = refl

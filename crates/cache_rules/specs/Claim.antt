@@ -1,4 +1,4 @@
--- The claim over every list of steps.
+-- RULES.md, The claim: of every list of calls, in the rules' own terms.
 -- Assumes nothing.
 use mathlib.Core.Bool.{true}
 use mathlib.Core.List.{List, List·Memᴰ, [], _∷_}
@@ -23,6 +23,7 @@ use Rattle.cache_rules.specs.Refusals.{sound-model}
 
 -- ===== what is cached: membership =====
 
+-- the entry is one of the masters
 abbrev pub CachedMaster : Model → Entry → Type 0
 CachedMaster m e = List·Memᴰ e (m .masters .entries)
 
@@ -36,17 +37,18 @@ pub record Cached (m : Model) (k : BlockIdShort) (e : Entry) : Type 0 where
 
 -- ===== what is reached from M =====
 
--- Reached are M's updated top ids with references above the zerostate, the stored previous ids of each block cached before the call
--- under a reached shard and seqno and naming M's seqno as its reference, and no others.
+-- The ids that an extraction of M comes to: those of its starting items, and the previous ids of each block that is cached under the key of such an
+-- id and names M.
 pub data Reached (before : Model) (M : Entry) : BlockId → Type 0 where
   by-top : (t : TopBlock) → List·Memᴰ t (M .tops) → t .updated ≡ true → before .zerostate < t .«ref_by_mc_seqno» → Reached before M (t .«block_id»)
   by-previous : (i : BlockId) (e : Entry) (p : BlockId) → Reached before M i → Cached before (key i) e → e .reference ≡ M .id .seqno
       → List·Memᴰ p (e .previous) → Reached before M p
 
+-- the key of an id that is reached
 abbrev pub ReachedKey : Model → Entry → BlockIdShort → Type 0
 ReachedKey before M k = (i : BlockId) × Reached before M i × (key i ≡ k)
 
--- a record of a block that is cached under a reached shard and seqno and names M's seqno, as it is cached
+-- a record that belongs beside M: a block cached under the key of a reached id that names M, packed
 pub record Joins (before : Model) (M : Entry) (b : BlockCacheEntry) : Type 0 where
   pub under : BlockId
   pub reached : Reached before M under
@@ -62,32 +64,35 @@ Once (b ∷ bs) = ((d : BlockCacheEntry) → List·Memᴰ d bs → key (d .«blo
 
 -- ===== what a pop or a sync extraction hands out, and leaves =====
 
+-- of an extraction of x from `before` with the slice `lent`, which left `after` and `slice`
 pub record HandsOut (before : Model) (lent : List BlockCacheEntry) (x : Extract) (after : Model) (slice : List BlockCacheEntry) : Type 0 where
-  -- The shard blocks beside M are exactly the reached cached blocks naming M's seqno, each once and as cached: the first records of the
-  -- lent slice, as many as the answer says joined.
+  -- the first `joined` records of the slice are all that belong beside M, nothing else, and no two under one key
   pub exactly : (b : BlockCacheEntry) → List·Memᴰ b (take (x .joined) slice) ↔ Joins before (x .block) b
   pub once : Once (take (x .joined) slice)
   pub fits : x .joined ≤ length lent
   pub same-length : length slice ≡ length lent
   pub rest-untouched : drop (x .joined) slice ≡ drop (x .joined) lent
-  -- M was cached; it has left, and every other master block is as it was
+  -- M stood among the masters; the others are left, unchanged
   pub was-cached : CachedMaster before (x .block)
   pub masters : (e : Entry) → CachedMaster after e ↔ (CachedMaster before e × (e .id .seqno ≢ x .block .id .seqno))
-  -- every shard block under a reached shard and seqno, naming M or not, has left, and every other is as it was
+  -- no shard block is left under a reached key, whatever it names; the others are unchanged
   pub shards : (k : BlockIdShort) (e : Entry) → Cached after k e ↔ (Cached before k e × (ReachedKey before (x .block) k → ⊥))
-  -- the ids taken: the starting ids plus the previous ids of every joined block
+  -- an id is taken for each starting item and for each previous id of a record handed out
   pub ids-taken : x .taken ≡ length (starting-ids (before .zerostate) (x .block)) + total (λ (b : BlockCacheEntry). b .«prev_ids» .count) (take (x .joined) slice)
 
--- ===== the applied range: absent, or start ≤ end ≤ the present master mark =====
+-- ===== the applied range does not pass the master mark =====
 
+-- there is a mark, and n does not pass it
 abbrev pub AtMost : ℕ → Option ℕ → Type 0
 AtMost n none = ⊥
 AtMost n (some k) = n ≤ k
 
+-- no range; or its start does not pass its end, nor its end the mark
 abbrev pub RangeHolds : Option ℕ → Option Range → Type 0
 RangeHolds mark none = Unit {0}
 RangeHolds mark (some r) = (r .start ≤ r .end) × AtMost (r .end) mark
 
+-- of a model's range and master mark
 abbrev pub RangeOk : Model → Type 0
 RangeOk m = RangeHolds (m .masters .mark) (m .range)
 

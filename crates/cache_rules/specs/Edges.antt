@@ -1,4 +1,4 @@
--- The edges of document 01: the seqno limit, full groups and last collated ids, counts past their capacity, and each refusal.
+-- RULES.md, Limits and Questions: the seqno limit, full groups and last collated ids, counts past their capacity, and each refusal.
 -- Assumes nothing.
 use mathlib.Core.Bool.{false, true}
 use mathlib.Core.List.{List, [], _++_, _∷_}
@@ -24,63 +24,73 @@ use Rattle.cache_rules.specs.Effects.{after, effect, run, step}
 use Rattle.cache_rules.specs.Model.{Model, Range, empty-model}
 use Rattle.cache_rules.specs.Refusals.{further, sound-model}
 
+-- the answer of an outcome
 pub outcome-answer : Outcome → Answer
 outcome-answer o = o .answer
 
+-- the answers to calls on an empty cache
 pub answers : ℕ → List Call → List Answer
 answers zerostate calls = each outcome-answer (run (empty-model zerostate) calls)
 
+-- a store's answer with neither flag and no range
 pub nn-answer : Option BlockId → Answer
 nn-answer i = stored false false i none
 
 -- ===== seqnos =====
 
+-- the highest seqno that question 2 lets pass, and the one after it
 pub seqno-edge : answers 0 (coll (mc 4_294_967_294) ∷ coll (mc 4_294_967_295) ∷ []) ≡ nn-answer (some (mc 4_294_967_294)) ∷ refused 2 ∷ []
 unfolding step same-shard less-shard same-id less-id is-masterchain run sound-model effect further padded zero-id zero-top hash block mc candidate ask-call cand coll outcome-answer answers nn-answer
 seqno-edge = refl
 
 -- ===== full groups =====
 
+-- k numbers from n on
 pub from-to : ℕ → ℕ → List ℕ
 from-to zero n = []
 from-to (suc k) n = n ∷ from-to k (suc n)
 
+-- the last two, or as many as there are
 pub last-two : List Answer → List Answer
 last-two [] = []
 last-two (a ∷ []) = a ∷ []
 last-two (a ∷ b ∷ []) = a ∷ b ∷ []
 last-two (a ∷ b ∷ c ∷ rest) = last-two (b ∷ c ∷ rest)
 
+-- collate the master of seqno n
 pub coll-at : ℕ → Call
 coll-at n = coll (mc n)
 
--- the 16th entry fits and the 17th gives 8
+-- of 17 masters the last but one still goes in, and question 8 refuses the last
 pub group-edge : last-two (answers 0 (each coll-at (from-to 17 1))) ≡ nn-answer (some (mc 16)) ∷ refused 8 ∷ []
 unfolding step same-shard less-shard same-id less-id is-masterchain run sound-model effect further padded zero-id zero-top hash block mc candidate ask-call cand coll coll-at from-to last-two outcome-answer answers nn-answer
 group-edge = refl
 
+-- a block of seqno 1 in the shard of workchain 0 and prefix n
 pub shard-block : ℕ → BlockId
 shard-block n = block (pos 0) n 1 1
 
+-- collate that block
 pub coll-shard : ℕ → Call
 coll-shard n = coll (shard-block n)
 
--- the 8th shard fits and the 9th gives 8
+-- of 9 shards the last but one still gets a group, and question 8 refuses the last
 pub shard-edge : last-two (answers 0 (each coll-shard (from-to 9 1))) ≡ nn-answer none ∷ refused 8 ∷ []
 unfolding step same-shard less-shard same-id less-id is-masterchain run sound-model effect further padded zero-id zero-top hash block shard-block candidate ask-call cand coll coll-shard from-to last-two outcome-answer answers nn-answer
 shard-edge = refl
 
 -- ===== full last collated ids =====
 
+-- k numbers from n down, none below 0
 pub down-from : ℕ → ℕ → List ℕ
 down-from zero n = []
 down-from (suc k) n = n ∷ down-from k (n - 1)
 
--- master n is collated, then leaves by a sync extraction: its id stays, since only ids below its seqno go
+-- master n is collated, then leaves by a sync extraction; its id stays
 pub coll-sync : ℕ → List Call
 coll-sync n = coll (mc n) ∷ sync-call (mc n) ∷ []
 
--- after 31 masters from m33 down: the 32nd id fits and the 33rd gives 9; a seqno that is among the ids fits
+-- with 31 ids, of masters 33 down to 3: one more goes in, question 9 refuses the next, and a seqno that has an id already passes
 pub id-edge :
     drop 62 (answers 0 (flat-map coll-sync (down-from 31 33) ++ (coll-at 2 ∷ coll-at 1 ∷ coll-at 5 ∷ [])))
     ≡ nn-answer (some (mc 33)) ∷ refused 9 ∷ nn-answer (some (mc 33)) ∷ []
@@ -89,19 +99,24 @@ id-edge = refl
 
 -- ===== counts past their capacity =====
 
+-- a count of 3 over the 2 places
 pub ids-of-3 : PrevIds
 ids-of-3 = record { ids = mc 4 ∷ mc 3 ∷ []; count = 3 }
 
+-- a count of 9 over the 8 places
 pub tops-of-9 : TopBlocks
 tops-of-9 = record { items = replicate 8 (top 5 (sc 1)); count = 9 }
 
+-- a count of 10 over the 9 places
 pub keys-of-10 : Keys
 keys-of-10 = record { keys = replicate 9 (key (mc 1)); count = 10 }
 
+-- receive a block with this reference block, these previous ids and top items
 pub received-block : BlockId → BlockId → PrevIds → TopBlocks → Call
 received-block i reference previous tops =
     ask-call (store-received (record { «block_id» = i; «ref_block_id» = reference; «prev_ids» = previous; «top_blocks» = tops; «top_anchor» = Absent; payload = 0 }))
 
+-- each of these counts is refused by question 3, and so is a shard block with a top item
 pub count-edges :
     answers 0
     (ask-call (store-collated (candidate (mc 5) 5 ids-of-3 (pack-tops []))) ∷ ask-call (store-collated (candidate (mc 5) 5 (pack-prev-ids []) tops-of-9))
@@ -113,6 +128,7 @@ count-edges = refl
 
 -- ===== each refusal =====
 
+-- one place too few
 pub short-slice : List BlockCacheEntry
 short-slice = replicate 127 zero-entry
 
@@ -127,11 +143,13 @@ pub refusals :
 unfolding step same-shard less-shard same-id less-id is-masterchain run sound-model effect further padded zero-id zero-top zero-entry hash block mc candidate ask-call cand top slice short-slice pop-call received-block outcome-answer answers
 refusals = refl
 
--- ===== plausible and wrong: collect does not move the range =====
+-- ===== calls that leave the range =====
 
+-- the range that calls on an empty cache of zerostate 0 leave
 pub range-after : List Call → Option Range
 range-after calls = after (empty-model 0) calls .range
 
+-- m5 is collected, and the range still starts at 5
 pub collect-keeps-range :
     range-after (recv (mc 5) [] ∷ recv (mc 6) [] ∷ ask-call (set-boundary (keys (key (mc 6) ∷ []))) ∷ ask-call collect ∷ []) ≡ some (record { start = 5; end = 6 })
 unfolding step same-shard less-shard same-id less-id is-masterchain after sound-model effect further padded zero-id zero-top hash block mc ask-call recv keys range-after
@@ -150,6 +168,7 @@ unmarked =
     let m = after (empty-model 0) (recv (mc 5) [] ∷ []) in
     record { zerostate = m .zerostate; masters = with-mark none (m .masters); ids = m .ids; range = none; shards = m .shards }
 
+-- there the same block is received once more, and question 7 refuses it
 pub received-twice : (sound-model unmarked ≡ true) × (step unmarked (recv (mc 5) []) .answer ≡ refused 7)
 unfolding step same-shard less-shard same-id less-id is-masterchain after sound-model effect further padded zero-id zero-top hash block mc ask-call recv unmarked
 received-twice = (refl, refl)

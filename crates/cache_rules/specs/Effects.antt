@@ -1,4 +1,4 @@
--- Document 01: what a request does that is not refused; one call, and a list of calls.
+-- RULES.md, from Collated store to Answers: what a request does that is not refused; one call, and a list of calls.
 -- Assumes nothing.
 use mathlib.Core.Bool.{Bool, _&&_, _||_, not}
 use mathlib.Core.List.{List, [], _++_, _∷_}
@@ -34,92 +34,101 @@ plain a m = record { model = m; answer = a; blocks = [] }
 
 -- ===== the two stores =====
 
--- Each store answers with the two flags, the highest last collated id and the range.
+-- a store's two flags, with the last of the ids and the range of the model that it leaves
 abbrev pub store-answer : Stored → Model → Effect
 store-answer s m = plain (stored (s .both) (s .mismatch) (last (m .ids)) (m .range)) m
 
--- an entry is put into the group of its shard, or nothing changes
+-- the entry put into the shard's group, which is made where there was none; without a change the model as it was
 abbrev pub store-change : ShardIdent → Option Entry → Model → Model
 store-change s none m = m
 store-change s (some e) m = let g = group-for s m in with-group s (with-entries (put entry-before e (g .entries)) g) m
 
--- A collated master store that inserts or updates (one without mismatch) moves the start, then puts the id in.
+-- master data after a collated store: past a master that is no mismatch the range is moved on, and its id goes in
 abbrev pub collated-data : BlockId → Bool → Model → Model
 collated-data i mismatch m =
     pick (is-masterchain (id-shard i) && not mismatch) (with-ids-and-range (put id-before i (m .ids)) (moved-start (i .seqno) (m .range)) m) m
 
+-- the collated store, by what it makes of the entry at the candidate's seqno
 abbrev pub collated-stored : BlockCandidate → Stored → Model → Effect
 collated-stored c s m = store-answer s (collated-data (c .«block_id») (s .mismatch) (store-change (id-shard (c .«block_id»)) (s .change) m))
 
+-- the collated store of a candidate
 abbrev pub do-store-collated : BlockCandidate → Model → Effect
 do-store-collated c m = collated-stored c (store-collated-at c (entry-for (c .«block_id») m)) m
 
+-- the change put into the block's group, and the group's mark refreshed by the block's seqno
 abbrev pub store-and-refresh : BlockId → Option Entry → Model → Model
 store-and-refresh i change m =
     let g = group-for (id-shard i) m in with-group (id-shard i) (refresh (i .seqno) (with-entries (changed-entries change (g .entries)) g)) m
 
--- A received master store that is not Synced moves the end. On mismatch ids from the master's seqno on go; for a shard block, ids from
--- its reference seqno on.
+-- master data after a received store: a master's seqno becomes the range's end; a mismatch drops ids, from a master's own seqno on or from a shard
+-- block's reference on
 abbrev pub received-data : ReceivedBlock → Bool → Model → Model
 received-data r mismatch m =
     with-ids-and-range
     (pick mismatch (ids-below (pick (is-masterchain (id-shard (r .«block_id»))) (r .«block_id» .seqno) (r .«ref_block_id» .seqno)) (m .ids)) (m .ids))
     (pick (is-masterchain (id-shard (r .«block_id»))) (moved-end (r .«block_id» .seqno) (m .range)) (m .range)) m
 
+-- the received store of a block that is not synced, by what it makes of the entry at the block's seqno
 abbrev pub received-stored : ReceivedBlock → Stored → Model → Effect
 received-stored r s m = store-answer s (received-data r (s .mismatch) (store-and-refresh (r .«block_id») (s .change) m))
 
--- first the mark's rule; if it gives a mark, the answer is Synced and nothing changes
+-- the received store: the model stays as it was where the group's mark reaches the block's seqno
 abbrev pub do-store-received : ReceivedBlock → Model → Effect
 do-store-received r m =
     pick (is-synced (r .«block_id») m) (plain synced m) (received-stored r (store-received-at (m .zerostate) r (entry-for (r .«block_id») m)) m)
 
 -- ===== validation =====
 
+-- the status that a validation brings
 abbrev pub result-status : Validation → CandidateStatus
 result-status (complete handle weight) = Validated
 result-status skipped = ValidationSkipped
 
+-- the signature handle that it brings, 0 if skipped
 abbrev pub result-handle : Validation → ℕ
 result-handle (complete handle weight) = handle
 result-handle skipped = 0
 
+-- the total weight that it brings, 0 if skipped
 abbrev pub result-weight : Validation → ℕ
 result-weight (complete handle weight) = weight
 result-weight skipped = 0
 
--- Received, Synced or the same status: no change. Else status, handle and weight are set (Skipped sets 0 and 0).
+-- the kind that a validation makes of a kind; none of a Received one, of status Synced, and of the status that it brings
 abbrev pub validated-kind : Validation → BlockCacheEntryData → Option BlockCacheEntryData
 validated-kind v (received after more) = none
 validated-kind v (collated st after handle weight processed) =
     pick (same-status st Synced || same-status st (result-status v)) none
     (some (collated (result-status v) after (result-handle v) (result-weight v) processed))
 
--- .. and the new status returns
+-- the master with its new kind, and the status as the answer; or no change
 abbrev pub validate-kind : Validation → Entry → Option BlockCacheEntryData → Model → Effect
 validate-kind v e none m = plain no-change m
 validate-kind v e (some k) m =
     plain (validated (status-number (result-status v))) (with-masters (with-entries (put entry-before (with-kind k e) (m .masters .entries)) (m .masters)) m)
 
--- If none stands there, the answer is no change.
+-- validation of the master at the seqno; no change where there is none
 abbrev pub validate-entry : Validation → Option Entry → Model → Effect
 validate-entry v none m = plain no-change m
 validate-entry v (some e) m = validate-kind v e (validated-kind v (e .kind)) m
 
 -- ===== pop and sync extraction =====
 
+-- what is answered of an extraction: M and the walk's two numbers
 abbrev pub extract-of : Entry → Walk → Extract
 extract-of M w = record { block = M; joined = length (w .joined); taken = w .taken }
 
--- M has left its group, and ids below its seqno have gone
+-- the model with these masters, this range, the walk's shard groups, and the ids from M's seqno on
 abbrev pub extracted-model : Entry → Walk → GroupModel → Option Range → Model → Model
 extracted-model M w masters range m =
     record { zerostate = m .zerostate; masters = masters; ids = ids-from (M .id .seqno) (m .ids); range = range; shards = w .shards }
 
+-- the master group without the entry of M's seqno
 abbrev pub masters-without : Entry → Model → GroupModel
 masters-without M m = with-entries (without (M .id .seqno) (m .masters .entries)) (m .masters)
 
--- Pop: the entry leaves; ids below its seqno go; the start moves by it.
+-- pop of the master found: it leaves, and the range goes on after it; 11 where none was found
 abbrev pub pop-entry : Option Entry → Model → Effect
 pop-entry none m = plain (refused 11) m
 pop-entry (some M) m =
@@ -130,7 +139,7 @@ pop-entry (some M) m =
       blocks = w .joined;
     }
 
--- Sync extraction: the entry leaves; if applied the start moves; the mark's rule is used; ids below go. No entry: AlreadyExtracted.
+-- sync extraction of the master found: it leaves and refreshes the mark; only if it was applied does the range go on after it
 abbrev pub sync-entry : Option Entry → Model → Effect
 sync-entry none m = plain already-extracted m
 sync-entry (some M) m =
@@ -144,33 +153,35 @@ sync-entry (some M) m =
 
 -- ===== peek and tail ids =====
 
--- the entry pop would choose, or Nothing; then its starting items
+-- peek at the master found: its row and the view of its starting items
 abbrev pub peek-entry : Option Entry → Model → Effect
 peek-entry none m = plain nothing m
 peek-entry (some M) m =
     plain
     (peeked (record { id = M .id; reference = M .reference; payload = M .payload }) (view-tops (M .id .seqno) (m .shards) (starting-items (m .zerostate) M))) m
 
+-- the tail ids of the master found; 12 where none was found
 abbrev pub tail-ids-entry : Option Entry → Model → Effect
 tail-ids-entry none m = plain (refused 12) m
 tail-ids-entry (some M) m = plain (tail-ids (tails-of (m .shards) M)) m
 
 -- ===== set boundary, collect, remove next collated =====
 
--- each key in turn sets its group's boundary, unknown shards skipped
+-- a key becomes the boundary of its shard's group, if there is such a group
 abbrev pub bound-one : Model → BlockIdShort → Model
 bound-one m k =
     pick (is-masterchain (key-shard k)) (with-masters (with-boundary k (m .masters)) m)
     (with-shards (on-shard (key-shard k) (with-boundary k) (m .shards)) m)
 
--- for each master removed at s, ids below s go
+-- a collected master takes the ids below it along
 abbrev pub collect-ids : List BlockId → Entry → List BlockId
 collect-ids ids e = ids-from (e .id .seqno) ids
 
+-- a shard's group after its collection
 abbrev pub collect-shard : ShardModel → ShardModel
 collect-shard g = record { shard = g .shard; group = collected (g .group) }
 
--- entries below the boundary go
+-- every group is collected, and the collected masters take ids along; range and marks stay
 abbrev pub do-collect : Model → Model
 do-collect m =
     record {
@@ -181,11 +192,11 @@ do-collect m =
       shards = each collect-shard (m .shards);
     }
 
--- for each master removed at s, ids from s on go
+-- a removed master takes its own seqno's id and all higher ones along
 abbrev pub remove-ids : List BlockId → Entry → List BlockId
 remove-ids ids e = ids-below (e .id .seqno) ids
 
--- for each key, unknown shards skipped, its group's non-Received entries above it go
+-- a key's group, if there is one, loses the collated entries above the key's seqno; masters take ids along; range and marks stay
 abbrev pub remove-one : Model → BlockIdShort → Model
 remove-one m k =
     pick (is-masterchain (key-shard k))
@@ -200,6 +211,7 @@ remove-one m k =
 
 -- ===== every request =====
 
+-- what each request does
 unfoldable pub effect : Model → Request → Effect
 effect m (store-collated c) = do-store-collated c m
 effect m (store-received r) = do-store-received r m
@@ -213,26 +225,29 @@ effect m (set-boundary ks) = plain done (fold bound-one m (listed-keys ks))
 effect m collect = plain done (do-collect m)
 effect m (remove-next-collated ks) = plain done (fold remove-one m (listed-keys ks))
 
--- Blocks go to the front of a lent slice of records; the rest is untouched.
+-- the blocks, then the slice from the place after them on
 abbrev pub at-front : List BlockCacheEntry → List BlockCacheEntry → List BlockCacheEntry
 at-front blocks slice = blocks ++ drop (length blocks) slice
 
+-- an effect's model and answer, with its blocks packed at the front of the lent slice
 abbrev pub outcome-of : Effect → List BlockCacheEntry → Outcome
 outcome-of e lent = record { model = e .model; answer = e .answer; slice = at-front (each pack-entry (e .blocks)) lent }
 
--- No gives the number, and cache and lent slices are unchanged.
+-- a number refuses: the model and the slice are as they were; else the request has its effect
 abbrev pub answered : Option ℕ → Model → Call → Outcome
 answered none m call = outcome-of (effect m (call .request)) (call .lent)
 answered (some n) m call = record { model = m; answer = refused n; slice = call .lent }
 
+-- one call: its questions, and what follows from them
 unfoldable pub step : Model → Call → Outcome
 step m call = answered (first-no (questions m call)) m call
 
--- a list of calls, each given the cache that the last one left
+-- the outcome of each call of a list, each given the model that the last one left
 unfoldable pub run : Model → List Call → List Outcome
 run m [] = []
 run m (call ∷ calls) = step m call ∷ run (step m call .model) calls
 
+-- the model that a list of calls leaves
 unfoldable pub after : Model → List Call → Model
 after m [] = m
 after m (call ∷ calls) = after (step m call .model) calls

@@ -17,6 +17,7 @@ entry-marked mark e = not (is-received e) || mark-reaches (e .id .seqno) mark
 abbrev pub group-marked : GroupModel → Bool
 group-marked g = every (entry-marked (g .mark)) (g .entries)
 
+-- the same of a shard's group
 abbrev pub shard-marked : ShardModel → Bool
 shard-marked g = group-marked (g .group)
 

@@ -1,4 +1,4 @@
--- Document 01, Master data and Whole cache: the cache as lists, and what is read from it.
+-- RULES.md, Master data and The whole cache: the cache as lists, and what is read from it.
 -- Assumes nothing.
 use mathlib.Core.Bool.{Bool, _&&_, not}
 use mathlib.Core.List.{List, [], _∷_}
@@ -13,48 +13,56 @@ use Rattle.block_records.specs.rules.Entry.{Entry, is-applied}
 use Rattle.block_records.specs.rules.Lists.{each, find, pick, present, put, select}
 use Rattle.blocks_group.specs.rules.Group.{GroupModel, at-seqno, empty-group, refresh, with-entries, without}
 
--- ===== Master data: last collated ids by seqno, and the applied range =====
+-- ===== Master data =====
 
+-- the applied range, its ends included
 pub record Range : Type 0 where
   pub start : ℕ
   pub end : ℕ
 
--- Moving the start by seqno s: if a range exists and s ≥ start, start becomes s + 1, and the range is absent if that exceeds end.
+-- the seqnos up to s taken out of a range that s has reached: it goes on at the next, or is gone if s was its end or past it; an s before the range
+-- takes nothing
 abbrev pub moved-start : ℕ → Option Range → Option Range
 moved-start s none = none
 moved-start s (some r) = pick (leb (r .start) s) (pick (ltb s (r .end)) (some (record { start = suc s; end = r .end })) none) (some r)
 
--- Moving the end: end becomes s, or the range (s, s) appears.
+-- the range with s as its end; without a range, s alone
 abbrev pub moved-end : ℕ → Option Range → Option Range
 moved-end s none = some (record { start = s; end = s })
 moved-end s (some r) = some (record { start = r .start; end = s })
 
+-- ids stand by seqno
 abbrev pub id-before : BlockId → BlockId → Bool
 id-before a b = ltb (a .seqno) (b .seqno)
 
--- the ids from s on: those below it go
+-- the ids of seqno s or higher
 abbrev pub ids-from : ℕ → List BlockId → List BlockId
 ids-from s ids = select (λ (i : BlockId). leb s (i .seqno)) ids
 
--- the ids below s: those from it on go
+-- the ids of a seqno below s
 abbrev pub ids-below : ℕ → List BlockId → List BlockId
 ids-below s ids = select (λ (i : BlockId). ltb (i .seqno) s) ids
 
--- ===== Shard groups, by rising shard, made by the first store and never dropped =====
+-- ===== Shard groups =====
 
+-- a shard with its group
 pub record ShardModel : Type 0 where
   pub shard : ShardIdent
   pub group : GroupModel
 
+-- groups stand by shard
 abbrev pub shard-before : ShardModel → ShardModel → Bool
 shard-before a b = less-shard (a .shard) (b .shard)
 
+-- the group is the shard's
 abbrev pub is-shard : ShardIdent → ShardModel → Bool
 is-shard s g = same-shard (g .shard) s
 
+-- the shard with its group, if it has one
 abbrev pub find-shard : ShardIdent → List ShardModel → Option ShardModel
 find-shard s gs = find (is-shard s) gs
 
+-- the group found, else an empty one
 abbrev pub group-in : Option ShardModel → GroupModel
 group-in none = empty-group
 group-in (some g) = g .group
@@ -63,28 +71,30 @@ group-in (some g) = g .group
 abbrev pub group-of : ShardIdent → List ShardModel → GroupModel
 group-of s gs = group-in (find-shard s gs)
 
+-- the shard's group put in, in the place of the one that it had
 abbrev pub set-group : ShardIdent → GroupModel → List ShardModel → List ShardModel
 set-group s g gs = put shard-before (record { shard = s; group = g }) gs
 
--- a change of the group of one shard; an unknown shard is skipped
+-- a change of the group of one shard, if it has one
 abbrev pub on-shard : ShardIdent → (GroupModel → GroupModel) → List ShardModel → List ShardModel
 on-shard s f gs = each (λ (g : ShardModel). pick (is-shard s g) (record { shard = g .shard; group = f (g .group) }) g) gs
 
--- the shard block under a shard and seqno
+-- the shard block cached under a key
 abbrev pub block-under : List ShardModel → BlockIdShort → Option Entry
 block-under [] k = none
 block-under (g ∷ gs) k = pick (is-shard (key-shard k) g) (at-seqno (k .seqno) (g .group .entries)) (block-under gs k)
 
--- the block under a shard and seqno leaves
+-- the shard block under a key taken out
 abbrev pub remove-block : BlockIdShort → List ShardModel → List ShardModel
 remove-block k gs = on-shard (key-shard k) (λ (g : GroupModel). with-entries (without (k .seqno) (g .entries)) g) gs
 
--- the mark of its group is refreshed
+-- the mark of the key's group refreshed by the key's seqno
 abbrev pub refresh-shard : BlockIdShort → List ShardModel → List ShardModel
 refresh-shard k gs = on-shard (key-shard k) (refresh (k .seqno)) gs
 
 -- ===== The whole cache =====
 
+-- the whole cache: zerostate seqno, master group, last collated ids, applied range, shard groups
 pub record Model : Type 0 where
   pub zerostate : ℕ
   pub masters : GroupModel
@@ -92,16 +102,19 @@ pub record Model : Type 0 where
   pub range : Option Range
   pub shards : List ShardModel
 
--- An empty cache is made from a zerostate seqno alone: no group, entry, mark, range, boundary or id.
+-- a zerostate seqno, and all else empty or absent
 abbrev pub empty-model : ℕ → Model
 empty-model z = record { zerostate = z; masters = empty-group; ids = []; range = none; shards = [] }
 
+-- the same with this master group
 abbrev pub with-masters : GroupModel → Model → Model
 with-masters g m = record { zerostate = m .zerostate; masters = g; ids = m .ids; range = m .range; shards = m .shards }
 
+-- the same with these shard groups
 abbrev pub with-shards : List ShardModel → Model → Model
 with-shards gs m = record { zerostate = m .zerostate; masters = m .masters; ids = m .ids; range = m .range; shards = gs }
 
+-- the same with this master data
 abbrev pub with-ids-and-range : List BlockId → Option Range → Model → Model
 with-ids-and-range ids range m = record { zerostate = m .zerostate; masters = m .masters; ids = ids; range = range; shards = m .shards }
 
@@ -109,6 +122,7 @@ with-ids-and-range ids range m = record { zerostate = m .zerostate; masters = m 
 abbrev pub group-for : ShardIdent → Model → GroupModel
 group-for s m = pick (is-masterchain s) (m .masters) (group-of s (m .shards))
 
+-- the same with this group for a block of the shard
 abbrev pub with-group : ShardIdent → GroupModel → Model → Model
 with-group s g m = pick (is-masterchain s) (with-masters g m) (with-shards (set-group s g (m .shards)) m)
 
@@ -116,16 +130,18 @@ with-group s g m = pick (is-masterchain s) (with-masters g m) (with-shards (set-
 abbrev pub entry-for : BlockId → Model → Option Entry
 entry-for i m = at-seqno (i .seqno) (group-for (id-shard i) m .entries)
 
--- the lowest applied master entry at or above f
+-- applied, of seqno f or higher
 abbrev pub applied-from : ℕ → Entry → Bool
 applied-from f e = leb f (e .id .seqno) && is-applied e
 
+-- the first master of that sort: pop and peek choose it
 abbrev pub first-applied : ℕ → Model → Option Entry
 first-applied f m = find (applied-from f) (m .masters .entries)
 
--- 'last' says that no applied entry lies above it
+-- applied, of a seqno higher than n
 abbrev pub applied-above : ℕ → Entry → Bool
 applied-above n e = ltb n (e .id .seqno) && is-applied e
 
+-- no master is of that sort
 abbrev pub is-last : ℕ → Model → Bool
 is-last n m = not (present (find (applied-above n) (m .masters .entries)))

@@ -1,4 +1,4 @@
-// C1 to C14, one function each.
+// RULES.md, Case table: C1 to C14, one function each; the cache that each leaves is compared whole.
 use crate::answers::already_extracted;
 use crate::answers::is_synced;
 use crate::answers::last_is;
@@ -72,7 +72,7 @@ use blocks_group::group::Boundary;
 use blocks_group::group::Group;
 use blocks_group::mark::Mark;
 
-// Empty: peek Nothing, pop from 0 number 11, sync m5 AlreadyExtracted; the cache stays empty.
+// Nothing is cached: a peek finds nothing, a pop is refused by 11, m5 is already extracted; the cache stays empty.
 fn c1() -> bool {
     let start = new();
     let seen = peek_front_applied_mc_block_subgraph(start, 0);
@@ -104,7 +104,7 @@ fn m5_with(data: BlockCacheEntryData) -> Cache {
     bare_cache(one_entry(m5, Mark::Absent), one_id(mc(5), range))
 }
 
-// Receive m5: (no, no), range (5,5), mark 5.
+// m5 is received: no flag, it alone is the range, the mark is its seqno.
 fn c2() -> bool {
     let r = receive_alone(new(), mc(5));
     let s = stored(r, false, false);
@@ -114,7 +114,7 @@ fn c2() -> bool {
     s & (range & (ids & left))
 }
 
-// Again m5, or m4: Synced, and nothing changes.
+// m5 once more, and m4 below it, are synced already: nothing changes.
 fn c3() -> bool {
     let r = receive_alone(new(), mc(5));
     let again = receive_alone(r.cache, mc(5));
@@ -125,7 +125,7 @@ fn c3() -> bool {
     a & (l & left)
 }
 
-// Collate m5: (no, no); m5 or m5' again: 7, and nothing changes.
+// m5 is collated: no flag; the same or another block at its seqno is then refused by 7, and nothing changes.
 fn c4() -> bool {
     let r = collate_alone(new(), mc(5));
     let s = stored(r, false, false);
@@ -139,7 +139,7 @@ fn c4() -> bool {
     s & (last & (a & (o & left)))
 }
 
-// Collate m5, receive m5: (yes, no), range (5,5), last id m5.
+// m5 is collated, then received: both; its id stays the last one, and it is the range.
 fn c5() -> bool {
     let r = collate_alone(new(), mc(5));
     let both = receive_alone(r.cache, mc(5));
@@ -154,7 +154,7 @@ fn c5() -> bool {
     s & (range & (last & left))
 }
 
-// Collate m5, receive m5': (no, yes), range (5,5), no last id.
+// m5 is collated, then another block received at its seqno: a mismatch, and the id of m5 is dropped.
 fn c6() -> bool {
     let r = collate_alone(new(), mc(5));
     let other = receive_alone(r.cache, mc_other(5));
@@ -168,7 +168,7 @@ fn c6() -> bool {
     s & (range & (last & left))
 }
 
-// Receive m5, collate m5': (no, yes), and nothing changes.
+// m5 is received, then another block collated at its seqno: a mismatch that changes nothing.
 fn c7() -> bool {
     let r = receive_alone(new(), mc(5));
     let other = collate_alone(r.cache, mc_other(5));
@@ -179,7 +179,7 @@ fn c7() -> bool {
     s & (range & (last & left))
 }
 
-// Receive m5, collate m5: (yes, no), range absent; pop from 0 gives m5, last, and its id stays.
+// m5 is received, then collated: both, and no range is left; a pop still hands it out, as the last, and its id stays.
 fn c8() -> bool {
     let r = receive_alone(new(), mc(5));
     let both = collate_alone(r.cache, mc(5));
@@ -205,7 +205,7 @@ fn plain_master(seqno: u32) -> MasterBlock {
     }
 }
 
-// Receive m5, m6, m7; pop 0: m5, not last, range (6,7); pop 7: m7, last, range absent, m6 still cached.
+// m5 to m7 are received. A pop from 0 hands out m5, and the range goes on at 6; a pop from 7 hands out m7 as the last, ends the range and leaves m6.
 fn c9() -> bool {
     let a = receive_alone(new(), mc(5));
     let b = receive_alone(a.cache, mc(6));
@@ -240,7 +240,7 @@ fn no_change(answer: ValidationAnswer) -> bool {
     }
 }
 
-// Collate m5; Complete weight 9: Validated; Complete 12: no change, 9 stands; Skipped: weight 0.
+// m5 is validated with weight 9; a second validation, with weight 12, changes nothing; one that is skipped takes the weight away.
 fn c10() -> bool {
     let r = collate_alone(new(), mc(5));
     let nine = ValidationStatus::Complete {
@@ -303,7 +303,7 @@ fn collected_to_7() -> Cache {
     bare_cache(masters, data)
 }
 
-// Collate m5, m6, m7; boundary 7, collect: ids 6 and 7 remain.
+// m5 to m7 are collated, and m5 and m6 collected; the last master collected is m6, so its id stays, with that of m7.
 fn c11() -> bool {
     let a = collate_alone(new(), mc(5));
     let b = collate_alone(a.cache, mc(6));
@@ -319,7 +319,7 @@ fn c11() -> bool {
     d & (e & left)
 }
 
-// Collate s1 (reference 4), s2 (5, previous s1), s3 (5, previous s2); receive m5 with updated top s3, reference 5.
+// Three collated shard blocks in a row, of which s1 names m4, s2 and s3 m5; and m5, received with s3 as its updated top.
 fn chain() -> Cache {
     let prev_ids = zero_prev_ids();
     let a = collate(new(), sc(1), 4, prev_ids);
@@ -329,7 +329,7 @@ fn chain() -> Cache {
     d.cache
 }
 
-// Pop: s2, s3; 3 ids taken; s1 gone; mark 3.
+// A pop hands out s2 and s3 with m5, and takes 3 ids; s1 is dropped, and the shard's mark is that of s3.
 fn c12() -> bool {
     let out = pop(chain(), 0);
     let m5 = MasterBlock {
@@ -346,7 +346,7 @@ fn c12() -> bool {
     p & ((a & b) & left)
 }
 
-// Parent p4; l5 and r5 follow p4, r6 follows r5; all collated naming m5, received with updated tops l5, r6, reference 5.
+// A shard split: after p4 come l5 on the left, and r5 and r6 on the right, all naming m5; and m5, received with l5 and r6 as its updated tops.
 fn split() -> Cache {
     let prev_ids = zero_prev_ids();
     let a = collate(new(), sc(4), 5, prev_ids);
@@ -366,7 +366,7 @@ fn split_blocks(out: ArrayExtract) -> bool {
     (a & b) & (c & d)
 }
 
-// Out: r5, p4, r6, l5; 5 ids taken; marks 5, 4 and 6.
+// A pop hands out all four, the newest join first, and takes 5 ids: p4 was queued twice. The marks are 5, 4 and 6.
 fn c13() -> bool {
     let out = pop(split(), 0);
     let m5 = MasterBlock {
@@ -390,7 +390,7 @@ fn row_is(row: TailIdsRow, id: BlockId, count: usize) -> bool {
     held.present & (same & (prev.count == count))
 }
 
-// As C12 before the pop, tail ids: m5 with none, s2 with [s1].
+// The tail ids of that m5: its own row without previous ids, and for the shard that of s2, which follows s1. The cache is as it was.
 fn c14() -> bool {
     let r = read_before_tail_ids_of_mc_block(chain(), key(mc(5)));
     let answer = r.answer;

@@ -1,4 +1,4 @@
-// Document 01's case table, C1 to C14, run on `blocks_cache`. Prints how many cases ran and how many came out wrong.
+// RULES.md, Case table: C1 to C14, run on `blocks_cache`. Prints how many cases ran and how many came out wrong.
 mod answers;
 mod calls;
 mod cases;

@@ -1,5 +1,5 @@
 // The cache as a graph for Graphviz: masters in bold, shards as boxes around their blocks; an edge to what is not cached is dotted, and one to a
-// block that names another master is dashed and red. A block is looked up by shard and seqno alone, as the calls do it.
+// block that names another master is dashed and red. A block is looked up by its id's key, as the calls do it.
 use crate::output::put;
 use crate::output::put_hash;
 use crate::output::put_number;

@@ -38,7 +38,7 @@ fn with_prefix(id: BlockId, prefix: u64) -> BlockId {
     out
 }
 
-// Rising by workchain (signed), prefix, seqno, root hash, file hash. The hashes are compared from the first byte.
+// They rise: each field decides where those before it are the same, -1 is below 0, and a hash's first byte weighs most.
 fn rising() -> [BlockId; 16] {
     let m = block(-1, 5);
     let root = with_root(m, 31, 1);
@@ -99,7 +99,7 @@ fn rows(t: Tally) -> Tally {
     out
 }
 
-// Shards, keys and the masterchain: -1 with any prefix, and no other workchain.
+// Shards, keys and the masterchain: workchain -1 whatever the prefix, and no other.
 fn sides(t: Tally) -> Tally {
     let m = block(-1, 5);
     let s = block(0, 5);

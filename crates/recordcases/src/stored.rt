@@ -108,7 +108,7 @@ fn received(workchain: i32, reference: u32) -> ReceivedBlock {
     }
 }
 
-// At the zerostate no previous ids are stored and the payload is kept; the top anchor stays for a master only.
+// A block that names the zerostate loses its previous ids and keeps its payload; one that is no master loses its top anchor.
 fn received_records(t: Tally) -> Tally {
     let m = fresh_received(5, received(-1, 6));
     let z = fresh_received(6, received(-1, 6));
@@ -138,7 +138,7 @@ fn collated(received_after_collation: bool) -> BlockCacheEntry {
     with_data(zero_entry(), data)
 }
 
-// Collated is applied with the received-after flag only.
+// A Collated entry is applied only once it was received too.
 fn applied(t: Tally) -> Tally {
     let yes = collated(true);
     let no = collated(false);

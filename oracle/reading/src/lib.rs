@@ -1,4 +1,4 @@
-//! A second reading of the requirements' document 01, written from the document alone, and what tests other programs with it.
+//! A second reading of the rules, written from their text alone, and what tests other programs with it.
 pub mod places;
 pub mod questions;
 pub mod random;

@@ -49,7 +49,7 @@ pub struct Places {
     pub shards: [PlaceGroup; SHARDS],
 }
 
-/// "Zeros in unused places": Collated is the first kind and the first status.
+/// An unused place: Collated is the first kind and the first status.
 impl Default for PlaceEntry {
     fn default() -> Self {
         let kind = Kind::Collated { status: Status::Collated, received_after: false, handle: 0, weight: 0, processed_to: 0 };

@@ -1,4 +1,4 @@
-//! The gatekeeper's questions, 1 to 12, in their order.
+//! RULES.md, Questions: 1 to 12, in their order.
 use crate::places::{ENTRIES, IDS, PREV_IDS, SHARDS, TOPS};
 use crate::records::*;
 use crate::rules::Rules;
@@ -52,7 +52,7 @@ impl Rules {
             }
             Request::TailIds(key) => {
                 self.seqno(key.seqno)?;
-                // 12: "Tail ids above the zerostate: is the master entry cached?"
+                // 12: there is a master at the seqno, unless the zerostate is not passed.
                 ask(12, !self.above_zerostate(cache, key.seqno) || cache.masters.at(key.seqno).is_some())
             }
             Request::Boundary(keys) | Request::RemoveNext(keys) => self.keys(keys),
@@ -60,12 +60,12 @@ impl Rules {
         }
     }
 
-    /// 2: "Is every seqno given below 4,294,967,295?"
+    /// 2: no seqno is the highest number of 32 bits.
     fn seqno(&self, seqno: u32) -> Refusal {
         ask(2, seqno < u32::MAX || self.is(Wrong::SeqnoMaxPasses))
     }
 
-    /// 10: "has the lent slice 128 places or more?"
+    /// 10: the lent slice has a place for every shard block of a full cache.
     fn lent(&self, lent: usize) -> Refusal {
         ask(10, lent >= LENT - usize::from(self.is(Wrong::SliceOf127)))
     }
@@ -104,12 +104,12 @@ impl Rules {
         Ok(())
     }
 
-    /// 3: "Do lists fit: 2 previous ids, 8 top items [..]; has a shard block no top item?"
+    /// 3: previous ids and top items fit their places, and only a master has top items.
     fn block_lists(&self, b: &Block) -> Refusal {
         ask(3, b.prev.len() <= PREV_IDS && b.tops.len() <= TOPS && (b.id.is_masterchain() || b.tops.is_empty()))
     }
 
-    /// 4: "Has each previous id a lower seqno than its block and the same side, and is each top outside the masterchain?"
+    /// 4: previous ids are below the block in seqno, and masters exactly if it is one; top items are no masters.
     fn block_relations(&self, b: &Block) -> Refusal {
         for p in b.prev {
             let lower = p.seqno() < b.id.seqno() || self.is(Wrong::PrevEqualSeqno) && p.seqno() == b.id.seqno();
@@ -118,7 +118,7 @@ impl Rules {
         ask(4, b.tops.iter().all(|t| !t.id.is_masterchain()))
     }
 
-    /// 5: "is the reference seqno at or above the zerostate's?" 6: "Received master: is it its own reference block?"
+    /// 5: a received block's reference is not below the zerostate. 6: a received master is its own reference.
     fn reference(&self, cache: &Cache, r: &Received) -> Refusal {
         if self.is(Wrong::SyncedBeforeFive) && self.synced(cache, r) {
             return Ok(());
@@ -139,16 +139,16 @@ impl Rules {
             ask(8, group.is_none_or(|g| g.entries.len() < ENTRIES))?;
         }
         match entry {
-            // 7: "is the place vacant or of the other kind?"
+            // 7: what stands there is not of the kind that comes in.
             Some(e) => ask(7, e.is_received() == collated)?,
-            // 8: "Vacant: has the group under 16 entries, and for a new shard are there under 8 groups?"
+            // 8: a block that comes in anew finds a place in its group, and its group one in the cache.
             None => {
                 let entries = ENTRIES + usize::from(self.is(Wrong::SeventeenEntries));
                 let shards = SHARDS + usize::from(self.is(Wrong::NineShards));
                 ask(8, group.map_or(cache.shards.len() < shards, |g| g.entries.len() < entries))?;
             }
         }
-        // 9: "Collated master that inserts or updates: is its seqno among the last collated ids, or are there under 32?"
+        // 9: the id of a collated master that is no mismatch replaces one of its seqno, or finds a place.
         let stores = entry.is_none_or(|e| self.same_block(&e.id, id));
         if !(collated && id.is_masterchain() && stores) {
             return Ok(());
@@ -164,10 +164,10 @@ impl Rules {
             None => true,
             Some((start, end)) => start <= end && (self.is(Wrong::RangeAboveMark) || mark.is_some_and(|m| end <= m)),
         };
-        // "ids all masterchain under their seqnos", at most 32
+        // The last collated ids: 32 at most, by seqno, of the masterchain.
         let ids = c.ids.len() <= IDS && c.ids.iter().all(Id::is_masterchain) && rising(c.ids.iter().map(Id::seqno));
         let masters = self.sound_group(&c.masters, |s| s.is_masterchain() && (s.prefix == 1 << 63 || !self.is(Wrong::MasterPrefixFixed)));
-        // "up to 8 shard groups, by rising shard", "no masterchain shard group"
+        // The shard groups: 8 at most, by shard, none of the masterchain.
         let count = c.shards.len() <= SHARDS + usize::from(self.is(Wrong::NineShards));
         let order = rising(c.shards.iter().map(|(s, _)| self.shard_order(*s)));
         // Question 2 is asked of entries alone.
@@ -184,7 +184,7 @@ impl Rules {
         count && boundary && rising(g.entries.iter().map(Entry::seqno)) && g.entries.iter().all(|e| own(e.id.shard()) && self.sound_entry(e))
     }
 
-    /// "questions 2 to 4 true of every entry"
+    /// The entry passes questions 2 to 4.
     fn sound_entry(&self, e: &Entry) -> bool {
         self.block(&Block { id: &e.id, reference: e.reference, prev: &e.prev, tops: &e.tops }).is_ok()
     }

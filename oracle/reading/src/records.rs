@@ -1,13 +1,13 @@
-//! The records of document 01, as lists without a limit; the limits are questions.
+//! RULES.md, from Ids, shards and keys to The whole cache: the records, as lists without a limit; the limits are questions.
 
-/// "A shard is workchain and prefix", ordered by workchain (signed), then prefix.
+/// A shard of a workchain; the derived order is that of the fields.
 #[derive(Clone, Copy, PartialEq, Eq, PartialOrd, Ord, Debug, Default)]
 pub struct Shard {
     pub workchain: i32,
     pub prefix: u64,
 }
 
-/// "A key is shard and seqno."
+/// An id without its hashes.
 #[derive(Clone, Copy, PartialEq, Eq, PartialOrd, Ord, Debug, Default)]
 pub struct Key {
     pub shard: Shard,
@@ -16,7 +16,7 @@ pub struct Key {
 
 pub type Hash = [u8; 32];
 
-/// The derived order is the document's: workchain, prefix, seqno, root hash, file hash.
+/// The derived order is that of the fields.
 #[derive(Clone, Copy, PartialEq, Eq, PartialOrd, Ord, Debug, Default)]
 pub struct Id {
     pub key: Key,
@@ -25,7 +25,7 @@ pub struct Id {
 }
 
 impl Shard {
-    /// "A masterchain block has workchain -1 and any prefix."
+    /// Whether the workchain is -1, whatever the prefix.
     pub fn is_masterchain(self) -> bool {
         self.workchain == -1
     }
@@ -76,7 +76,7 @@ pub struct Entry {
 }
 
 impl Entry {
-    /// "An entry is applied if it is Received, or Collated with the received-after flag."
+    /// Received, before it was collated or after.
     pub fn is_applied(&self) -> bool {
         match self.kind {
             Kind::Received { .. } => true,
@@ -112,7 +112,7 @@ pub struct Received {
     pub payload: u64,
 }
 
-/// Entries by rising seqno; a list and not a map, so that an unsound one can be held too.
+/// Entries in the order of their seqnos; a list and not a map, so that an unsound one can be held too.
 #[derive(Clone, PartialEq, Eq, Debug, Default)]
 pub struct Group {
     pub entries: Vec<Entry>,
@@ -124,10 +124,10 @@ pub struct Group {
 pub struct Cache {
     pub zerostate: u32,
     pub masters: Group,
-    /// Last collated ids, by rising seqno.
+    /// Last collated ids, in the order of their seqnos.
     pub ids: Vec<Id>,
     pub range: Option<(u32, u32)>,
-    /// Shard groups, by rising shard.
+    /// Shard groups, in the order of their shards.
     pub shards: Vec<(Shard, Group)>,
 }
 
@@ -174,9 +174,9 @@ pub enum Request {
 #[derive(Clone, PartialEq, Eq, Debug)]
 pub struct Extracted {
     pub master: Entry,
-    /// In the order handed out: last joined first.
+    /// In the order handed out: the newest first.
     pub blocks: Vec<Entry>,
-    /// "how many ids were taken from the waiting list"
+    /// The number of ids that the walk took.
     pub taken: u64,
 }
 

@@ -91,7 +91,7 @@ impl Replay {
         answer
     }
 
-    /// "Blocks go to the front of a lent slice of records; the rest is untouched."
+    /// The blocks stand in the slice from its first place on; what stood after them stays.
     fn fill(&mut self, blocks: &[Entry]) {
         if self.rules.is(Wrong::SliceTailZeroed) {
             self.slice[..self.lent].fill(PlaceEntry::default());

@@ -1,4 +1,4 @@
-//! The rules of document 01. `Wrong::None` is the document; every other value deviates in the one line that names it.
+//! RULES.md, from Master data to Removal of collated blocks. `Wrong::None` is the right reading; every other value deviates in the one line that names it.
 use std::collections::{BTreeMap, BTreeSet, VecDeque};
 
 use crate::records::*;
@@ -45,7 +45,7 @@ impl Rules {
 
     // Ids and shards.
 
-    /// "ordered by workchain (signed), prefix"
+    /// The lower workchain first, as signed numbers, then the lower prefix.
     pub fn shard_order(&self, s: Shard) -> (i64, u64) {
         if self.is(Wrong::WorkchainUnsigned) { (i64::from(s.workchain as u32), s.prefix) } else { (i64::from(s.workchain), s.prefix) }
     }
@@ -56,7 +56,7 @@ impl Rules {
 
     // Group.
 
-    /// "mark ≥ seqno gives that mark and changes nothing, else the mark becomes seqno"
+    /// The mark's rule: a mark that reaches the seqno is given and stays; any other is raised to the seqno.
     fn refresh(&self, mark: &mut Option<u32>, seqno: u32) -> Option<u32> {
         match *mark {
             Some(m) if m > seqno || m == seqno && !self.is(Wrong::SyncedAboveMark) => Some(m),
@@ -67,7 +67,7 @@ impl Rules {
         }
     }
 
-    /// The group of a block, made by the first store.
+    /// The group of a block; one that is not there yet is made.
     fn group<'a>(&self, cache: &'a mut Cache, shard: Shard) -> &'a mut Group {
         if shard.is_masterchain() {
             return &mut cache.masters;
@@ -83,7 +83,7 @@ impl Rules {
         &mut cache.shards[at].1
     }
 
-    /// "Collated store: vacant, a fresh entry goes in [..]"
+    /// The collated store at its place.
     fn store_collated_in(&self, g: &mut Group, c: &Candidate) -> Flags {
         let kind = Kind::Collated { status: Status::Collated, received_after: false, handle: 0, weight: 0, processed_to: c.processed_to };
         let (prev, tops) = (c.prev.clone(), c.tops.clone());
@@ -93,14 +93,14 @@ impl Rules {
             return (false, false);
         };
         let entry = &mut g.entries[at];
-        // "Received under another id: nothing changes"
+        // Another id was received there: the entry stays.
         if !self.same_block(&entry.id, &c.id) {
             if self.is(Wrong::MismatchReplacesReceived) {
                 *entry = fresh;
             }
             return (false, true);
         }
-        // "collated-after becomes true, a shard entry takes the candidate's processed-to anchor as additional anchor"
+        // The same id was received there: flagged as collated too, and for a shard block with the candidate's processed-to anchor.
         if let Kind::Received { collated_after, additional } = &mut entry.kind {
             *collated_after = true;
             if !c.id.is_masterchain() || self.is(Wrong::AdditionalForMasters) {
@@ -110,7 +110,7 @@ impl Rules {
         (true, false)
     }
 
-    /// "Vacant: a fresh entry. Collated under the same id: received-after true, status Synced. Under another id: replaced."
+    /// The received store at its place: a fresh entry, unless the same id was collated there; that one is flagged and Synced.
     fn store_received_in(&self, g: &mut Group, zerostate: u32, r: &Received) -> Flags {
         let fresh = self.fresh_received(zerostate, r);
         let Some(at) = g.at(r.id.seqno()) else {
@@ -133,7 +133,7 @@ impl Rules {
         (true, false)
     }
 
-    /// "Where its reference seqno equals the zerostate's, no previous ids are stored; the payload is kept"; "top anchor (kept for a master only)".
+    /// A received block's entry: previous ids are left out at the zerostate's seqno, the top anchor outside the masterchain.
     fn fresh_received(&self, zerostate: u32, r: &Received) -> Entry {
         let reference = r.reference.seqno();
         let at_zerostate = reference == zerostate;
@@ -146,7 +146,7 @@ impl Rules {
 
     // Master data.
 
-    /// "if a range exists and s ≥ start, start becomes s + 1, and the range is absent if that exceeds end"
+    /// The range moved on past a seqno that is not before it; no range once its end is passed.
     fn move_start(&self, cache: &mut Cache, seqno: u32) {
         if let Some((start, end)) = cache.range
             && seqno >= start
@@ -157,7 +157,7 @@ impl Rules {
         }
     }
 
-    /// "end becomes s, or the range (s, s) appears"
+    /// The range with a seqno as its end; without a range, that seqno alone.
     fn move_end(&self, cache: &mut Cache, seqno: u32) {
         match &mut cache.range {
             Some((_, end)) if !self.is(Wrong::EndStays) => *end = seqno,
@@ -166,7 +166,7 @@ impl Rules {
         }
     }
 
-    /// "moves the start, then puts the id in"
+    /// The collated store: past a master the range is moved on, and its id is put in.
     fn put_id(&self, cache: &mut Cache, id: &Id) {
         if !self.is(Wrong::StartStaysOnCollated) {
             self.move_start(cache, id.seqno());
@@ -185,7 +185,7 @@ impl Rules {
             return Answer::Refused(n);
         }
         let flags = self.store_collated_in(self.group(cache, c.id.shard()), c);
-        // "A collated master store that inserts or updates"
+        // Not on a mismatch.
         let stores = !flags.1 && !(flags.0 && self.is(Wrong::UpdateStoresNoId));
         if c.id.is_masterchain() && stores {
             self.put_id(cache, &c.id);
@@ -193,7 +193,7 @@ impl Rules {
         self.stored(cache, flags)
     }
 
-    /// "first the mark's rule; if it gives a mark, the answer is Synced"
+    /// Whether the mark of its group reaches a received block.
     pub fn synced(&self, cache: &Cache, r: &Received) -> bool {
         let group = if r.id.is_masterchain() { Some(&cache.masters) } else { cache.shard(r.id.shard()) };
         let mut mark = group.and_then(|g| g.mark);
@@ -214,7 +214,7 @@ impl Rules {
         if r.id.is_masterchain() {
             self.move_end(cache, r.id.seqno());
         }
-        // "ids from the master's seqno on go; for a shard block, ids from its reference seqno on"
+        // A mismatch drops ids, from a master's own seqno on or from a shard block's reference on.
         if flags.1 && !self.is(Wrong::MismatchKeepsIds) {
             let own = r.id.is_masterchain() || self.is(Wrong::ShardMismatchOwnSeqno);
             let from = if own { r.id.seqno() } else { r.reference.seqno() };
@@ -225,7 +225,7 @@ impl Rules {
 
     // Whole cache.
 
-    /// "Received, Synced or the same status: no change. Else status, handle and weight are set (Skipped sets 0 and 0)"
+    /// Status, handle and weight of a collated master are set, unless it is Synced or of that status already.
     fn validation(&self, cache: &mut Cache, id: &Id, verdict: Verdict) -> Answer {
         let Some(at) = cache.masters.at(id.seqno()) else {
             return Answer::NoChange;
@@ -250,7 +250,7 @@ impl Rules {
         Answer::Changed(new)
     }
 
-    /// "the lowest applied master entry at or above f"
+    /// The first applied master from f on.
     pub fn front_applied(&self, cache: &Cache, from: u32) -> Option<usize> {
         let fits = |e: &Entry| {
             let in_reach = e.seqno() > from || e.seqno() == from && !self.is(Wrong::PopAbove);
@@ -260,7 +260,7 @@ impl Rules {
         if self.is(Wrong::PopHighest) { entries.iter().rposition(fits) } else { entries.iter().position(fits) }
     }
 
-    /// "leaves; ids below its seqno go; the start moves by it; 'last' says that no applied entry lies above it"
+    /// Pop: that master is taken out, lower ids with it, and the range is moved on past it; the last is one with no applied master after it.
     fn pop(&self, cache: &mut Cache, from: u32) -> Answer {
         let at = self.front_applied(cache, from).expect("question 11");
         let first = if self.is(Wrong::LastCountsItself) { at } else { at + 1 };
@@ -274,7 +274,7 @@ impl Rules {
         Answer::Popped { last, extracted: self.extract(cache, master) }
     }
 
-    /// "the master entry at the id's seqno leaves; if applied the start moves; the mark's rule is used; ids below go"
+    /// Sync extraction: the master at the seqno is taken out, lower ids with it, and refreshes the mark; past an applied one the range is moved on.
     fn sync(&self, cache: &mut Cache, id: &Id) -> Answer {
         let seqno = id.seqno();
         let Some(at) = cache.masters.at(seqno) else {
@@ -295,7 +295,7 @@ impl Rules {
         Answer::Extracted(self.extract(cache, master))
     }
 
-    /// "M's top items, in order, that are updated with reference above the zerostate"
+    /// The top items from which extraction starts.
     fn starting<'a>(&self, zerostate: u32, master: &'a Entry) -> impl Iterator<Item = &'a Top> {
         let (any, at) = (self.is(Wrong::NotUpdatedStarts), self.is(Wrong::ZerostateStarts));
         master.tops.iter().filter(move |t| (t.updated || any) && (t.reference > zerostate || at && t.reference == zerostate))
@@ -307,14 +307,14 @@ impl Rules {
         let mut taken = 0;
         while let Some(id) = if self.is(Wrong::DepthFirst) { waiting.pop_back() } else { waiting.pop_front() } {
             taken += u64::from(!self.is(Wrong::TakenCountsFound));
-            // "Each id taken is looked up by shard and seqno alone."
+            // The hashes are not looked at.
             let Some(group) = cache.shard_mut(id.shard()) else { continue };
             let Some(at) = group.at(id.seqno()) else { continue };
             if self.is(Wrong::LookupByWholeId) && group.entries[at].id != id {
                 continue;
             }
             taken += u64::from(self.is(Wrong::TakenCountsFound));
-            // "If its reference is M's seqno it joins the subgraph [..]; otherwise it is dropped."
+            // A block that names M joins; any other is lost.
             let joins = group.entries[at].reference == master.seqno();
             if !joins && self.is(Wrong::ForeignStays) {
                 continue;
@@ -330,14 +330,14 @@ impl Rules {
                 blocks.push(block);
             }
         }
-        // "The subgraph is the joined blocks, last joined first."
+        // The newest first.
         if !self.is(Wrong::FirstJoinedFirst) {
             blocks.reverse();
         }
         Extracted { master, blocks, taken }
     }
 
-    /// "then its starting items in order, as long as each is cached naming M; the first that isn't ends the view and its key is reported"
+    /// Peek: a row for each starting item, up to the first whose block is missing or names another master.
     fn peek(&self, cache: &Cache, from: u32) -> Answer {
         let Some(at) = self.front_applied(cache, from) else {
             return Answer::Nothing;
@@ -354,7 +354,7 @@ impl Rules {
                 }
                 break;
             };
-            // "a top's first two taken from its item"
+            // Id and reference are the item's, the payload is the block's.
             let id = if self.is(Wrong::PeekEntryId) { e.id } else { t.id };
             let reference = if self.is(Wrong::PeekEntryReference) { e.reference } else { t.reference };
             view.tops.push(ViewRow { id, reference, payload: e.payload });
@@ -366,7 +366,7 @@ impl Rules {
         seqno > cache.zerostate || self.is(Wrong::TailAtZerostate) && seqno == cache.zerostate
     }
 
-    /// All tops in turn, then each id queued as a previous id once, a top's id too.
+    /// Tail ids: the tops one by one, then each id of the queue once, even one that was a top.
     fn tail_ids(&self, cache: &Cache, seqno: u32) -> Vec<TailRow> {
         let Some(at) = cache.masters.at(seqno).filter(|_| self.above_zerostate(cache, seqno)) else {
             return vec![];
@@ -376,12 +376,12 @@ impl Rules {
         let mut queued: VecDeque<(Id, bool)> = m.tops.iter().map(|t| (t.id, true)).collect();
         let mut known: BTreeSet<Id> = queued.iter().filter(|_| self.is(Wrong::TailTopsOnce)).map(|(id, _)| *id).collect();
         while let Some((id, is_top)) = queued.pop_front() {
-            // "seqno 0 is skipped"
+            // Seqno 0 gives nothing.
             if id.seqno() == 0 && !self.is(Wrong::TailSeqnoZero) {
                 continue;
             }
             let row = match cached(cache, &id) {
-                // "A missing top gives (absent, itself)."
+                // A top that is not cached is its own previous id.
                 None if is_top => (None, vec![id]),
                 None => continue,
                 Some(e) => {
@@ -402,7 +402,7 @@ impl Rules {
         rows.into_values().map(|(shard, (id, prev))| TailRow { shard, id, prev }).collect()
     }
 
-    /// "the pair held is replaced if its id is absent, or if the new id is less, absent being least"
+    /// Whether a row takes the place of the one held: that one has no id, or its own comes before it; no id comes before all.
     fn replaces(&self, held: &Option<Id>, new: &Option<Id>) -> bool {
         match (held, new) {
             (None, _) => !self.is(Wrong::TailAbsentStays),
@@ -413,7 +413,7 @@ impl Rules {
         }
     }
 
-    /// "each key in turn sets its group's boundary, unknown shards skipped"
+    /// Set boundary: each key for its shard's group, if there is one.
     fn boundary(&self, cache: &mut Cache, keys: &[Key]) -> Answer {
         for k in keys {
             if k.shard.is_masterchain() || cache.shard(k.shard).is_some() || self.is(Wrong::BoundaryMakesGroups) {
@@ -423,7 +423,7 @@ impl Rules {
         Answer::Done
     }
 
-    /// "entries below the boundary go; for each master removed at s, ids below s go"
+    /// Collect: every group by its boundary; a collected master takes lower ids along.
     fn collect(&self, cache: &mut Cache) -> Answer {
         let goes = |boundary: Option<Key>, seqno: u32| boundary.is_some_and(|k| seqno < k.seqno || self.is(Wrong::CollectInclusive) && seqno == k.seqno);
         let boundary = cache.masters.boundary;
@@ -444,7 +444,7 @@ impl Rules {
         Answer::Done
     }
 
-    /// "for each key, unknown shards skipped, its group's non-Received entries above it go; for each master removed at s, ids from s on go"
+    /// Remove next collated: what is above a key in its shard's group and not Received; a removed master takes its own and higher ids along.
     fn remove_next(&self, cache: &mut Cache, keys: &[Key]) -> Answer {
         for k in keys {
             let goes = |e: &Entry| {
@@ -467,7 +467,7 @@ impl Rules {
     }
 }
 
-/// Looked up by shard and seqno alone, among the shard groups.
+/// The shard block under an id's key.
 fn cached<'a>(cache: &'a Cache, id: &Id) -> Option<&'a Entry> {
     let group = cache.shard(id.shard())?;
     group.at(id.seqno()).map(|at| &group.entries[at])

@@ -1,4 +1,4 @@
-//! Wrong readings of document 01, each a deviation of one line in `rules` or `questions`. A test that finds none of them would prove nothing.
+//! Wrong readings of the rules, each a deviation of one line in `rules` or `questions`. A test that finds none of them would prove nothing.
 
 macro_rules! wrongs {
     ($($name:ident: $words:literal,)*) => {

@@ -1,4 +1,4 @@
-//! Document 01's case table, C1 to C14, on the second reading.
+//! RULES.md, Case table: C1 to C14, on the second reading.
 use reading::records::*;
 use reading::replay::{Held, Replay};
 use reading::wrong::Wrong;

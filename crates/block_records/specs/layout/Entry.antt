@@ -19,9 +19,11 @@ use Rattle.block_records.specs.rules.Lists.{padded}
 
 -- ===== pack: the list first, zeros after it =====
 
+-- of previous ids
 abbrev pub pack-prev-ids : List BlockId → PrevIds
 pack-prev-ids xs = record { ids = padded prev-ids-limit zero-id xs; count = length xs }
 
+-- of top items
 abbrev pub pack-tops : List TopBlock → TopBlocks
 pack-tops xs = record { items = padded tops-limit zero-top xs; count = length xs }
 
@@ -29,9 +31,11 @@ pack-tops xs = record { items = padded tops-limit zero-top xs; count = length xs
 abbrev pub stored-prev-ids : PrevIds → PrevIds
 stored-prev-ids p = pack-prev-ids (listed-prev-ids p)
 
+-- the same of top items
 abbrev pub stored-tops : TopBlocks → TopBlocks
 stored-tops t = pack-tops (listed-tops t)
 
+-- an entry as it is held, without its top items
 abbrev pub pack-entry : Entry → BlockCacheEntry
 pack-entry e =
     record {
@@ -43,14 +47,17 @@ pack-entry e =
       «data» = e .kind;
     }
 
+-- its top items as they are held
 abbrev pub entry-tops : Entry → TopBlocks
 entry-tops e = pack-tops (e .tops)
 
+-- both, as a master block
 abbrev pub pack-master : Entry → MasterBlock
 pack-master e = record { entry = pack-entry e; tops = entry-tops e }
 
 -- ===== view: the first places of an array, as many as the count says =====
 
+-- what an entry stands for, with these top items
 abbrev pub view-entry : BlockCacheEntry → List TopBlock → Entry
 view-entry b ts =
     record {
@@ -63,12 +70,13 @@ view-entry b ts =
       kind = b .«data»;
     }
 
--- a shard block has no top item
+-- the same with no top items, as of a shard block
 abbrev pub view-shard-entry : BlockCacheEntry → Entry
 view-shard-entry b = view-entry b []
 
 -- ===== an entry with another kind =====
 
+-- all but the kind stays
 abbrev pub with-data : BlockCacheEntryData → BlockCacheEntry → BlockCacheEntry
 with-data k b =
     record {
@@ -92,11 +100,14 @@ held-applied b = kind-applied (b .«data»)
 
 -- ===== tidy: a record is the packing of what it stands for =====
 
+-- of previous ids
 abbrev pub prev-ids-tidy : PrevIds → Bool
 prev-ids-tidy p = same-prev-ids p (pack-prev-ids (listed-prev-ids p))
 
+-- of top items
 abbrev pub tops-tidy : TopBlocks → Bool
 tops-tidy t = same-tops t (pack-tops (listed-tops t))
 
+-- of an entry: its previous ids are tidy
 abbrev pub entry-tidy : BlockCacheEntry → Bool
 entry-tidy b = same-entry b (pack-entry (view-shard-entry b))

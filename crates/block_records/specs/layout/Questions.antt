@@ -1,4 +1,4 @@
--- Questions 2 to 4 of an entry as it is held.
+-- RULES.md, Questions: 2 to 4 of an entry as it is held.
 -- Assumes nothing.
 use mathlib.Core.Bool.{Bool, _&&_}
 use Rattle.block_records.specs.declared.entry.BlockCacheEntry.{BlockCacheEntry}

@@ -1,4 +1,4 @@
--- Document 01, Entry: the entry whole, with its previous ids and top items as lists, for master and shard blocks alike.
+-- RULES.md, Store records and Entries: the entry whole, with its previous ids and top items as lists, for master and shard blocks alike.
 -- Assumes nothing.
 use mathlib.Core.Bool.{Bool, false, true}
 use mathlib.Core.List.{List, []}
@@ -17,7 +17,7 @@ use Rattle.block_records.specs.declared.top_block.TopBlock.{TopBlock}
 use Rattle.block_records.specs.rules.BlockId.{id-shard, is-masterchain, listed-prev-ids, listed-tops}
 use Rattle.block_records.specs.rules.Lists.{pick}
 
--- Id, previous ids, top items, top anchor, reference seqno, payload and one of two kinds.
+-- a cached block, with all that is known of it
 pub record Entry : Type 0 where
   pub id : BlockId
   pub previous : List BlockId
@@ -27,28 +27,32 @@ pub record Entry : Type 0 where
   pub payload : ℕ
   pub kind : BlockCacheEntryData
 
+-- the same with this kind
 abbrev pub with-kind : BlockCacheEntryData → Entry → Entry
 with-kind k e =
     record { id = e .id; previous = e .previous; tops = e .tops; anchor = e .anchor; reference = e .reference; payload = e .payload; kind = k }
 
--- ===== the document's number of a case: its place in the list, from 0 =====
+-- ===== the number of a case: its place in the list, from 0 =====
 
+-- of a kind
 abbrev pub kind-number : BlockCacheEntryData → ℕ
 kind-number (collated st after handle weight processed) = 0
 kind-number (received after more) = 1
 
+-- of a status
 abbrev pub status-number : CandidateStatus → ℕ
 status-number Collated = 0
 status-number Validated = 1
 status-number ValidationSkipped = 2
 status-number Synced = 3
 
+-- the same status
 abbrev pub same-status : CandidateStatus → CandidateStatus → Bool
 same-status a b = eqb (status-number a) (status-number b)
 
 -- ===== fresh entries =====
 
--- Fresh: Collated, false, 0, 0, the candidate's.
+-- what a candidate becomes: status Collated, not received, no signatures, its own processed-to anchor
 abbrev pub fresh-collated : BlockCandidate → Entry
 fresh-collated c =
     record {
@@ -61,15 +65,15 @@ fresh-collated c =
       kind = collated Collated false 0 0 (c .«processed_to_anchor»);
     }
 
--- Where its reference seqno equals the zerostate's, no previous ids are stored.
+-- the previous ids that are stored of a received block: none if its reference has the zerostate's seqno, else those listed
 abbrev pub received-previous : ℕ → ReceivedBlock → List BlockId
 received-previous zerostate r = pick (eqb (r .«ref_block_id» .seqno) zerostate) [] (listed-prev-ids (r .«prev_ids»))
 
--- The top anchor is kept for a master only.
+-- the top anchor that is stored of a received block: absent unless it is a master
 abbrev pub received-anchor : ReceivedBlock → Anchor
 received-anchor r = pick (is-masterchain (id-shard (r .«block_id»))) (r .«top_anchor») Absent
 
--- Fresh: false, absent.
+-- what a received block becomes: not collated, no additional anchor
 abbrev pub fresh-received : ℕ → ReceivedBlock → Entry
 fresh-received zerostate r =
     record {
@@ -82,17 +86,20 @@ fresh-received zerostate r =
       kind = received false Absent;
     }
 
+-- the kind is Received
 abbrev pub kind-received : BlockCacheEntryData → Bool
 kind-received (collated st after handle weight processed) = false
 kind-received (received after more) = true
 
+-- Received; or Collated, and received after that
 abbrev pub kind-applied : BlockCacheEntryData → Bool
 kind-applied (collated st after handle weight processed) = after
 kind-applied (received after more) = true
 
+-- the entry is Received
 abbrev pub is-received : Entry → Bool
 is-received e = kind-received (e .kind)
 
--- An entry is applied if it is Received, or Collated with the received-after flag.
+-- the entry is applied
 abbrev pub is-applied : Entry → Bool
 is-applied e = kind-applied (e .kind)

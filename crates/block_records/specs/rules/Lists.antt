@@ -11,6 +11,7 @@ abbrev pub pick : {A : Type 0} → Bool → A → A → A
 pick true a b = a
 pick false a b = b
 
+-- there is a value
 abbrev pub present : {A : Type 0} → Option A → Bool
 present none = false
 present (some a) = true
@@ -61,6 +62,7 @@ module _ {A : Type 0} where
   unfoldable pub padded : ℕ → A → List A → List A
   padded n z xs = xs ++ replicate (n - length xs) z
 
+-- what a function makes of each element, in their order
 abbrev pub each : {A B : Type 0} → (A → B) → List A → List B
 each f [] = []
 each f (x ∷ xs) = f x ∷ each f xs
@@ -70,6 +72,7 @@ abbrev pub flat-map : {A B : Type 0} → (A → List B) → List A → List B
 flat-map f [] = []
 flat-map f (x ∷ xs) = f x ++ flat-map f xs
 
+-- the sum of a number that each element has
 abbrev pub total : {A : Type 0} → (A → ℕ) → List A → ℕ
 total f [] = 0
 total f (x ∷ xs) = f x + total f xs

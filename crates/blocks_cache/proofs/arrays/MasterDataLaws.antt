@@ -115,19 +115,19 @@ pub put-id-sound : (i : BlockId) (m : Model) → sound-model m ≡ true → pres
     put-id i (pack m .«data») ≡ repacked (put id-before i (m .ids)) m
 put-id-sound i m ok room = put-id-packed i m (ids-length i (find (id-at (i .seqno)) (m .ids)) (m .ids) (parts m ok .rest .ids) refl room)
 
--- ids below s go
+-- the ids from s on stay
 pub drop-ids-below-packed : (s : ℕ) (m : Model) → drop-ids-below s (pack m .«data») ≡ repacked (ids-from s (m .ids)) m
 drop-ids-below-packed s m = ap (λ (ids : List BlockId). repacked (ids-from s ids) m) (listed-packed m)
 
--- ids from s on go
+-- the ids below s stay
 pub drop-ids-from-packed : (s : ℕ) (m : Model) → drop-ids-from s (pack m .«data») ≡ repacked (ids-below s (m .ids)) m
 drop-ids-from-packed s m = ap (λ (ids : List BlockId). repacked (ids-below s ids) m) (listed-packed m)
 
--- the highest last collated id
+-- the last of the ids
 pub highest-id-packed : (m : Model) → highest-id (pack m .«data») ≡ pack-last (last (m .ids))
 highest-id-packed m = ap (λ (ids : List BlockId). pack-last (last ids)) (listed-packed m)
 
--- a seqno is among the last collated ids
+-- one of the ids has the seqno
 pub has-id-packed : (n : ℕ) (m : Model) → has-id n (pack m .«data») ≡ present (find (id-at n) (m .ids))
 has-id-packed n m = ap (λ (ids : List BlockId). present (find (id-at n) ids)) (listed-packed m)
 

@@ -415,7 +415,7 @@ module _ (mo : Model) (ok : sound-model mo ≡ true) (M : Entry) (fit : entry-fi
 tails-zeroed : (ts : List TailRow) → given-tails (pack-tails ts) ≡ zeroed-tails (given-tails (pack-tails ts))
 tails-zeroed ts = ap (λ (xs : List TailRow). given-tails (pack-tails xs)) (sym (view-pack-tails ts))
 
--- 12. Tail ids above the zerostate: is the master entry cached?
+-- 12: the zerostate is not passed, or there is a master at the seqno
 abbrev cached-question : BlockIdShort → Model → List Question
 cached-question k m = ask 12 (leb (k .seqno) (m .zerostate) || present (at-seqno (k .seqno) (m .masters .entries))) ∷ []
 

@@ -1,4 +1,4 @@
--- A call on a cache as it is held: a yes to all is never refused; a no leaves cache and slice; an unsound cache answers 1; peek and tail ids
+-- A call on a cache as it is held: it refuses by the first no only, and then leaves cache and slice; an unsound cache answers 1; peek and tail ids
 -- leave any cache as it was; the empty cache is sound.
 -- Assumes nothing.
 use mathlib.Core.Bool.{false, true}

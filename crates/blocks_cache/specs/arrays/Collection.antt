@@ -1,5 +1,5 @@
--- Document 01, Whole cache, Set boundary, Collect and Remove next collated: what the code does to a cache as it is held, for every cache, sound
--- or not, and what its answer says. On a packed cache this is the rule, packed (proofs/arrays/CollectionLaws).
+-- RULES.md, Boundary and collection and Removal of collated blocks: what the code does to a cache as it is held, for every cache, sound or not, and
+-- what its answer says. On a packed cache this is the rule, packed (proofs/arrays/CollectionLaws).
 -- Assumes nothing.
 use mathlib.Core.List.{List, [], _∷_}
 use mathlib.Core.Option.{Option, none, some}
@@ -32,6 +32,7 @@ use Rattle.cache_rules.specs.Calls.{Answer, done, refused}
 
 -- ===== what an answer says =====
 
+-- done, or the number of the refusal
 abbrev pub change-says : ChangeAnswer → Answer
 change-says change-done = done
 change-says (change-refused n) = refused n
@@ -40,9 +41,11 @@ change-says (change-refused n) = refused n
 abbrev pub change-outcome : CacheChange → HeldOutcome
 change-outcome r = record { cache = r .cache; answer = change-says (r .answer); slice = [] }
 
+-- done, and the cache left
 abbrev pub done-with : Cache → CacheChange
 done-with c = record { answer = change-done; cache = c }
 
+-- refused by a number, or done
 abbrev pub pack-change : Option ℕ → ChangeAnswer
 pack-change none = change-done
 pack-change (some n) = change-refused n
@@ -51,33 +54,36 @@ pack-change (some n) = change-refused n
 abbrev pub keys-answer : Keys → Cache → ChangeAnswer
 keys-answer ks c = pack-change (first-no (ask 1 (sound-cache c) ∷ keys-questions ks))
 
--- ===== a change of the group of one shard; an unknown shard is skipped =====
+-- ===== a change of the group of one shard =====
 
 -- the group at a place, of the shard that stands there
 abbrev pub with-group-at : ℕ → Group → List ShardGroup → List ShardGroup
 with-group-at k g gs = set gs k (record { shard = getD gs k zero-shard-group .shard; group = g })
 
+-- a change of the group at a place; none where the place is vacant
 abbrev pub on-place : (Group → Group) → Place → List ShardGroup → List ShardGroup
 on-place f (place-at k) gs = with-group-at k (f (getD gs k zero-shard-group .group)) gs
 on-place f (vacant-at k) gs = gs
 
+-- a change of the shard's group, if it has one
 abbrev pub on-shard-group : ShardIdent → (Group → Group) → Cache → Cache
 on-shard-group s f c = with-shard-groups (on-place f (shard-place s (c .«shard_count») (c .shards)) (c .shards)) c
 
 -- ===== set boundary =====
 
--- a key sets its group's boundary, an unknown shard is skipped
+-- a key becomes the boundary of its shard's group, if there is such a group
 unfoldable pub held-bound-one : Cache → BlockIdShort → Cache
 held-bound-one c k =
     pick (is-masterchain (key-shard k)) (with-master-group (set-master-boundary k (c .masters)) c) (on-shard-group (key-shard k) (set-group-boundary k) c)
 
 -- ===== collect =====
 
--- ids below the highest master removed go
+-- by the highest collected master: the ids below it are dropped
 abbrev pub drop-collected : SeqnoOption → MasterData → MasterData
 drop-collected no-seqno d = d
 drop-collected (seqno-at n) d = drop-ids-below n d
 
+-- a shard's group after its collection
 abbrev pub collect-shard-group : ShardGroup → ShardGroup
 collect-shard-group g = record { shard = g .shard; group = collect-group (g .group) }
 
@@ -87,7 +93,7 @@ changed-first zero f xs = xs
 changed-first (suc n) f [] = []
 changed-first (suc n) f (x ∷ xs) = f x ∷ changed-first n f xs
 
--- entries below their group's boundary go, and ids with them; the range stays
+-- every listed group is collected, and ids are dropped by the masters collected; the range stays
 unfoldable pub held-collect : Cache → Cache
 held-collect c =
     record {
@@ -100,17 +106,17 @@ held-collect c =
 
 -- ===== remove next collated =====
 
--- ids from the lowest master removed on go
+-- by the lowest removed master: the ids from its seqno on are dropped
 abbrev pub drop-removed : SeqnoOption → MasterData → MasterData
 drop-removed no-seqno d = d
 drop-removed (seqno-at n) d = drop-ids-from n d
 
--- non-Received masters above a seqno go, and ids with them; the range stays
+-- the masters above a seqno that are not Received are removed, and ids are dropped by them; the range stays
 abbrev pub held-remove-masters : ℕ → Cache → Cache
 held-remove-masters n c =
     with-master-data (drop-removed (lowest-collated-above n (c .masters .group)) (c .«data»)) (with-master-group (remove-collated-masters-above n (c .masters)) c)
 
--- of a key's group the non-Received entries above it go, an unknown shard is skipped
+-- of a key's group, if there is one, the entries above the key's seqno that are not Received are removed
 unfoldable pub held-remove-one : Cache → BlockIdShort → Cache
 held-remove-one c k =
     pick (is-masterchain (key-shard k)) (held-remove-masters (k .seqno) c) (on-shard-group (key-shard k) (remove-collated-above (k .seqno)) c)

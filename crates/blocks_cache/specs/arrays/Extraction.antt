@@ -1,5 +1,5 @@
--- What extraction does to the arrays, for every input: the groups are looked up by their entries' seqnos, and moved together once at the end.
--- On a sound cache that is the rule, packed (proofs/arrays/ExtractionRun).
+-- RULES.md, Extraction: what it does to the arrays, for every input: the groups are looked up by their entries' seqnos, and moved together once at
+-- the end. On a sound cache that is the rule, packed (proofs/arrays/ExtractionRun).
 -- Assumes nothing.
 use mathlib.Core.Bool.{Bool, false}
 use mathlib.Core.List.{List, [], _++_, _∷_}
@@ -33,7 +33,7 @@ use Rattle.cache_rules.specs.Extraction.{Walk, starts, top-id}
 abbrev pub view-master : MasterBlock → Entry
 view-master b = view-entry (b .entry) (listed-tops (b .tops))
 
--- the top items that are updated with reference above the zerostate
+-- the listed top items from which extraction starts
 abbrev pub held-starting-items : ℕ → TopBlocks → List TopBlock
 held-starting-items zerostate t = select (starts zerostate) (listed-tops t)
 
@@ -47,18 +47,21 @@ pack-waiting ids = record { ids = padded waiting-places zero-id ids; count = len
 
 -- ===== a block leaves its group =====
 
+-- the seqno of an entry that has left
 abbrev pub seqno-gone : ℕ → EntrySeqno
 seqno-gone n = record { seqno = n; cached = false }
 
+-- the entry at a place has left
 abbrev pub without-seqno : ℕ → ℕ → GroupSeqnos → GroupSeqnos
 without-seqno at n g = record { entries = set (g .entries) at (seqno-gone n); mark = g .mark }
 
--- its group's mark is refreshed
+-- the group's mark refreshed by a seqno
 abbrev pub refresh-seqnos : ℕ → GroupSeqnos → GroupSeqnos
 refresh-seqnos n g = record { entries = g .entries; mark = pack-mark (refreshed-mark n (view-mark (g .mark))) }
 
 -- ===== what is left, and what joined =====
 
+-- the entry has not left
 abbrev pub is-cached : EntrySeqno → Bool
 is-cached x = x .cached
 
@@ -66,6 +69,7 @@ is-cached x = x .cached
 abbrev pub still-cached : {A : Type 0} → List EntrySeqno → List A → List A
 still-cached ks xs = flagged (each is-cached ks) xs
 
+-- a group with the entries that are left moved together, zeros after them, and the mark of the gathered seqnos
 abbrev pub compact-group : Group → GroupSeqnos → Group
 compact-group g s =
     record {
@@ -75,9 +79,11 @@ compact-group g s =
       boundary = g .boundary;
     }
 
+-- the same of a shard's group
 abbrev pub compact-shard : ShardGroup → GroupSeqnos → ShardGroup
 compact-shard g s = record { shard = g .shard; group = compact-group (g .group) s }
 
+-- the same of each group with its seqnos
 abbrev pub compact-shards : List ShardGroup → List GroupSeqnos → List ShardGroup
 compact-shards [] ss = []
 compact-shards (g ∷ gs) [] = []
@@ -88,7 +94,7 @@ abbrev pub backwards : {A : Type 0} → List A → List A
 backwards [] = []
 backwards (x ∷ xs) = backwards xs ++ (x ∷ [])
 
--- The subgraph is the joined blocks, last joined first. The number of shard groups stays.
+-- what a walk leaves, packed: groups and joined blocks first, zeros after them, and the two numbers
 unfoldable pub pack-extraction : Walk → Extraction
 pack-extraction w =
     record {

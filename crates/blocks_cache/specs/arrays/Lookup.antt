@@ -1,5 +1,5 @@
--- The shard block that is cached under a shard and seqno, in the arrays, for every cache, sound or not. On a packed cache it is the one that the
--- rules look up, packed (proofs/arrays/LookupLaws by the groups, proofs/arrays/LookupLaws by what was gathered).
+-- RULES.md, How it is held: the shard block that is cached under a shard and seqno, in the arrays, for every cache, sound or not. On a packed cache
+-- it is the one that the rules look up, packed (proofs/arrays/LookupLaws).
 -- Assumes nothing.
 use mathlib.Core.Bool.{Bool, _&&_, false, true}
 use mathlib.Core.List.{List}
@@ -28,8 +28,6 @@ use Rattle.block_records.specs.rules.Lists.{each, padded}
 use Rattle.blocks_cache.specs.arrays.Shards.{ident-at, shard-ident}
 use Rattle.blocks_cache.specs.layout.Cache.{zero-shard-group}
 use Rattle.blocks_group.specs.arrays.Group.{held-seqno, listed-entries}
-
--- ===== by the groups =====
 
 -- ===== the seqnos of a group's entries =====
 
@@ -77,7 +75,7 @@ abbrev pub place-of : BlockId → List GroupSeqnos → Place → BlockPlace
 place-of i seqnos (place-at k) = place-in k (first-seqno-place (i .seqno) (getD seqnos k no-seqnos))
 place-of i seqnos (vacant-at k) = block-absent
 
--- by shard and seqno alone
+-- the place of the block under an id's key; the hashes are not looked at
 unfoldable pub block-place : BlockId → List ShardIdent → List GroupSeqnos → BlockPlace
 block-place i idents seqnos = place-of i seqnos (first-ident-place (id-shard i) idents)
 

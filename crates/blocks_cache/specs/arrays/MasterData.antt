@@ -29,9 +29,11 @@ with-ids ids d = record { ids = padded ids-limit zero-id ids; count = length ids
 
 -- ===== an id put in by seqno =====
 
+-- an id below the seqno
 abbrev pub id-below : ℕ → BlockId → Bool
 id-below n i = ltb (i .seqno) n
 
+-- an id of the seqno
 abbrev pub id-at : ℕ → BlockId → Bool
 id-at n i = eqb (i .seqno) n
 
@@ -46,14 +48,15 @@ abbrev pub retains-id : RetainedIds → BlockId → Bool
 retains-id (retain-ids-from n) i = leb n (i .seqno)
 retains-id (retain-ids-below n) i = ltb (i .seqno) n
 
+-- the listed ids that stay
 abbrev pub retain-ids : RetainedIds → MasterData → MasterData
 retain-ids r d = with-ids (select (retains-id r) (listed-ids d)) d
 
--- ids below s go
+-- the listed ids from s on stay
 abbrev pub drop-ids-below : ℕ → MasterData → MasterData
 drop-ids-below s d = with-ids (ids-from s (listed-ids d)) d
 
--- ids from s on go
+-- the listed ids below s stay
 abbrev pub drop-ids-from : ℕ → MasterData → MasterData
 drop-ids-from s d = with-ids (ids-below s (listed-ids d)) d
 
@@ -68,14 +71,14 @@ pack-last (some i) = record { present = true; id = i }
 abbrev pub view-last : LastId → Option BlockId
 view-last l = pick (l .present) (some (l .id)) none
 
--- the highest last collated id: the last that is listed
+-- the last id that is listed, the highest where they rise
 abbrev pub highest-id : MasterData → LastId
 highest-id d = pack-last (last (listed-ids d))
 
--- a seqno is among the last collated ids
+-- a listed id has the seqno
 abbrev pub has-id : ℕ → MasterData → Bool
 has-id n d = present (find (id-at n) (listed-ids d))
 
--- question 9: is the seqno among the last collated ids, or are there under 32?
+-- question 9 of a seqno: an id has it already, or the ids are not full
 abbrev pub has-place-for-id : ℕ → MasterData → Bool
 has-place-for-id n d = has-id n d || ltb (length (listed-ids d)) ids-limit

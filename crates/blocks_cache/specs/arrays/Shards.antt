@@ -33,9 +33,11 @@ ident-at s x = same-shard x s
 abbrev pub ident-place : ShardIdent → ℕ → List ShardIdent → Place
 ident-place s n is = place (ident-below s) (ident-at s) (take n is)
 
+-- a group of a lower shard
 abbrev pub shard-below : ShardIdent → ShardGroup → Bool
 shard-below s g = ident-below s (shard-ident g)
 
+-- the group of the shard
 abbrev pub shard-at : ShardIdent → ShardGroup → Bool
 shard-at s g = ident-at s (shard-ident g)
 

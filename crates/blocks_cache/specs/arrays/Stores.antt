@@ -1,5 +1,5 @@
--- Document 01, Master data and Whole cache: what the two stores answer, and what they do to a cache as it is held, sound or not. On a sound cache
--- this is the rule of the model, packed (proofs/arrays/StoresLaws).
+-- RULES.md, Collated store, Received store and Master data: what the two stores answer, and what they do to a cache as it is held, sound or not. On a
+-- sound cache this is the rule of the model, packed (proofs/arrays/StoresLaws).
 -- Assumes nothing.
 use mathlib.Core.Bool.{Bool, true}
 use mathlib.Core.List.{List, []}
@@ -38,7 +38,7 @@ use Rattle.cache_rules.specs.Model.{moved-end, moved-start}
 
 -- ===== the answer =====
 
--- Each store answers with the two flags, the highest last collated id and the range; Synced; or a question's number.
+-- stored, with the flags, id and range of the result; Synced; or the number of the refusal
 abbrev pub store-says : StoreAnswer → LastId → AppliedRange → Answer
 store-says (stored-answer both mismatch) l r = stored both mismatch (view-last l) (view-range r)
 store-says synced-answer l r = synced
@@ -53,7 +53,7 @@ store-outcome r =
 abbrev pub nothing-stored : StoreAnswer → Cache → BlockCacheStoreResult
 nothing-stored a c = record { answer = a; «last_collated_mc_block_id» = pack-last none; «applied_mc_queue_range» = no-range; cache = c }
 
--- stored: the highest last collated id and the range are those of the cache as it is left
+-- stored: with the last id and the range of the cache as it is left
 abbrev pub stored-in : StoreAnswer → Cache → BlockCacheStoreResult
 stored-in a c =
     record { answer = a; «last_collated_mc_block_id» = highest-id (c .«data»); «applied_mc_queue_range» = c .«data» .range; cache = c }
@@ -70,6 +70,7 @@ zeroed-store-by (stored-answer both mismatch) r =
 zeroed-store-by synced-answer r = nothing-stored synced-answer (r .cache)
 zeroed-store-by (refused-answer n) r = nothing-stored (refused-answer n) (r .cache)
 
+-- the same by its own answer
 abbrev pub zeroed-store : BlockCacheStoreResult → BlockCacheStoreResult
 zeroed-store r = zeroed-store-by (r .answer) r
 
@@ -90,7 +91,7 @@ with-shard-group g d c =
       «shard_count» = put-shard g (c .«shard_count») (c .shards) .count;
     }
 
--- the group at a place, an empty one where there is none; 8. for a new shard are there under 8 groups?
+-- the shard's group if it has one, else an empty one; and question 8: it has one, or a further group fits
 abbrev pub held-at : ℕ → List ShardGroup → Place → ShardHeld
 held-at n gs (place-at k) = record { room = true; group = getD gs k zero-shard-group .group }
 held-at n gs (vacant-at k) = record { room = ltb n shards-limit; group = zero-group }
@@ -105,21 +106,21 @@ shard-held s n gs = held-at n gs (shard-place s n gs)
 abbrev pub with-range : AppliedRange → MasterData → MasterData
 with-range r d = record { ids = d .ids; count = d .count; range = r }
 
--- A collated master store that inserts or updates moves the start, then puts the id in.
+-- after a master that a collated store takes in: the range moved on past it, and its id put in
 abbrev pub collated-ids : BlockId → MasterData → MasterData
 collated-ids i d = put-id i (with-range (pack-range (moved-start (i .seqno) (view-range (d .range)))) d)
 
--- On mismatch in a received store ids from a seqno on go.
+-- after a received store: on a mismatch the ids below s are left
 abbrev pub ids-after : Bool → ℕ → MasterData → MasterData
 ids-after mismatch s d = pick mismatch (drop-ids-from s d) d
 
--- A received one that is not Synced moves the end.
+-- after a received master: the range with its seqno as the end
 abbrev pub range-end-moved : ℕ → MasterData → MasterData
 range-end-moved s d = with-range (pack-range (moved-end s (view-range (d .range)))) d
 
 -- ===== the collated store =====
 
--- A master, by what the group's store answers. Mismatch: nothing changes. 9. Is its seqno among the last collated ids, or are there under 32?
+-- A master, by what the group's store answers. A mismatch leaves the cache; else 9 is asked, and group and master data go in.
 abbrev pub master-candidate-stored : BlockCandidate → StoreAnswer → MasterGroup → Cache → BlockCacheStoreResult
 master-candidate-stored c (stored-answer both mismatch) g h =
     pick mismatch (stored-in (stored-answer both mismatch) h)
@@ -133,14 +134,14 @@ master-candidate-stored c (refused-answer n) g h = nothing-stored (refused-answe
 unfoldable pub store-master-candidate : BlockCandidate → Cache → BlockCacheStoreResult
 store-master-candidate c h = let s = store-collated-master c (h .masters) in master-candidate-stored c (s .answer) (s .masters) h
 
--- A shard block, by what its group's store answers. Mismatch: nothing changes.
+-- A shard block, by what its group's store answers. A mismatch leaves the cache; else the group goes in.
 abbrev pub shard-candidate-stored : StoreAnswer → ShardGroup → Cache → BlockCacheStoreResult
 shard-candidate-stored (stored-answer both mismatch) g h =
     stored-in (stored-answer both mismatch) (pick mismatch h (with-shard-group g (h .«data») h))
 shard-candidate-stored synced-answer g h = nothing-stored synced-answer h
 shard-candidate-stored (refused-answer n) g h = nothing-stored (refused-answer n) h
 
--- 8. for a new shard are there under 8 groups? Then the store of its group, and what is made of its answer.
+-- 8 if there is no room for its shard; else the store of its group, and what is made of its answer
 abbrev pub shard-candidate-in : BlockCandidate → ShardHeld → Cache → BlockCacheStoreResult
 shard-candidate-in c x h =
     pick (x .room)
@@ -148,7 +149,7 @@ shard-candidate-in c x h =
     shard-candidate-stored (s .answer) (record { shard = id-shard (c .«block_id»); group = s .group }) h)
     (nothing-stored (refused-answer 8) h)
 
--- .. with the group of its shard
+-- a shard block, with the group of its shard
 unfoldable pub store-shard-candidate : BlockCandidate → Cache → BlockCacheStoreResult
 store-shard-candidate c h = shard-candidate-in c (shard-held (id-shard (c .«block_id»)) (h .«shard_count») (h .shards)) h
 
@@ -158,7 +159,7 @@ store-candidate c h = pick (is-masterchain (id-shard (c .«block_id»))) (store-
 
 -- ===== the received store =====
 
--- A master that is not Synced: the end is moved; on mismatch ids from its seqno on go.
+-- A master, by what the group's store answers: group and range go in, and on a mismatch the ids below its seqno are left.
 abbrev pub master-receipt-stored : ReceivedBlock → StoreAnswer → MasterGroup → Cache → BlockCacheStoreResult
 master-receipt-stored r (stored-answer both mismatch) g h =
     stored-in (stored-answer both mismatch)
@@ -171,14 +172,14 @@ unfoldable pub store-master-receipt : ReceivedBlock → Cache → BlockCacheStor
 store-master-receipt r h =
     let s = store-received-master (h .«zerostate_mc_seqno») r (h .masters) in master-receipt-stored r (s .answer) (s .masters) h
 
--- A shard block that is not Synced: on mismatch ids from its reference seqno on go.
+-- A shard block, by what its group's store answers: the group goes in, and on a mismatch the ids below its reference seqno are left.
 abbrev pub shard-receipt-stored : ReceivedBlock → StoreAnswer → ShardGroup → Cache → BlockCacheStoreResult
 shard-receipt-stored r (stored-answer both mismatch) g h =
     stored-in (stored-answer both mismatch) (with-shard-group g (ids-after mismatch (r .«ref_block_id» .seqno) (h .«data»)) h)
 shard-receipt-stored r synced-answer g h = nothing-stored synced-answer h
 shard-receipt-stored r (refused-answer n) g h = nothing-stored (refused-answer n) h
 
--- 8. for a new shard are there under 8 groups? Then the store of its group, and what is made of its answer.
+-- 8 if there is no room for its shard; else the store of its group, and what is made of its answer
 abbrev pub shard-receipt-in : ReceivedBlock → ShardHeld → Cache → BlockCacheStoreResult
 shard-receipt-in r x h =
     pick (x .room)
@@ -186,11 +187,11 @@ shard-receipt-in r x h =
     shard-receipt-stored r (s .answer) (record { shard = id-shard (r .«block_id»); group = s .group }) h)
     (nothing-stored (refused-answer 8) h)
 
--- .. with the group of its shard
+-- a shard block, with the group of its shard
 unfoldable pub store-shard-receipt : ReceivedBlock → Cache → BlockCacheStoreResult
 store-shard-receipt r h = shard-receipt-in r (shard-held (id-shard (r .«block_id»)) (h .«shard_count») (h .shards)) h
 
--- 5. is the reference seqno at or above the zerostate's? 6. Received master: is it its own reference block? Then 7 and 8, and the store.
+-- 5, that its reference is not below the zerostate; 6, that a master is its own reference; then 7 and 8, and the store
 unfoldable pub store-receipt : ReceivedBlock → Cache → BlockCacheStoreResult
 store-receipt r h =
     pick (leb (h .«zerostate_mc_seqno») (r .«ref_block_id» .seqno))

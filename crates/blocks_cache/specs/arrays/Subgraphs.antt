@@ -1,5 +1,5 @@
--- Document 01, Whole cache: pop and sync extraction as the code answers them, for every cache, request and number of places that the lent
--- slice has. What each answer says as the rules' answer is `extract-says`; proofs/arrays/SubgraphsLaws says that it is the rules' call.
+-- RULES.md, Pop and Sync extraction: as the code answers them, for every cache, request and number of places that the lent slice has. What each
+-- answer says as the rules' answer is `extract-says`; proofs/arrays/SubgraphsLaws says that it is the rules' call.
 -- Assumes nothing.
 use mathlib.Core.List.{List, []}
 use mathlib.Core.Path.{_≡_}
@@ -46,13 +46,14 @@ no-extract a c =
 unfoldable pub some-id : ℕ → BlockId
 some-id n = record { prefix = 0; workchain = negsuc 0; seqno = n; «root_hash» = replicate 32 0; «file_hash» = replicate 32 0 }
 
+-- the seqno of a request
 abbrev pub request-seqno : ExtractRequest → ℕ
 request-seqno (pop-request f) = f
 request-seqno (sync-request n) = n
 
 -- ===== what the code does to the arrays =====
 
--- The masters, the range and the shard groups as given; ids below M's seqno go.
+-- M with the walk's numbers and blocks; a cache with these masters, this range, the walk's shard groups, and the ids from M's seqno on
 abbrev pub hand-out : Cache → ExtractAnswer → MasterBlock → MasterGroup → AppliedRange → Extraction → ExtractWithBlocks
 hand-out c a b masters range x =
     record {
@@ -79,7 +80,7 @@ hand-out c a b masters range x =
       blocks = x .blocks;
     }
 
--- if M is applied the start moves
+-- the range moved on past M, if M is applied
 abbrev pub move-applied-start : AppliedRange → MasterBlock → AppliedRange
 move-applied-start r b = pick (kind-applied (b .entry .«data»)) (pack-range (moved-start (master-seqno b) (view-range r))) r
 
@@ -89,6 +90,7 @@ move-applied-start r b = pick (kind-applied (b .entry .«data»)) (pack-range (m
 abbrev pub held-extract : SubgraphExtract → Extract
 held-extract r = record { block = view-master (r .master); joined = r .joined; taken = r .taken }
 
+-- what is handed out, already extracted, or the number of the refusal
 abbrev pub extract-says : SubgraphExtract → ExtractAnswer → Answer
 extract-says r (popped-extract last) = popped (held-extract r) last
 extract-says r extracted-answer = extracted (held-extract r)
@@ -112,6 +114,7 @@ extract-call q lent = record { request = extract-request q; lent = lent }
 abbrev pub extract-on : Cache → ExtractRequest → List BlockCacheEntry → HeldOutcome
 extract-on c q lent = call-on c (extract-call q lent)
 
+-- the same with this master block
 abbrev pub with-master : MasterBlock → SubgraphExtract → SubgraphExtract
 with-master b r = record { answer = r .answer; master = b; joined = r .joined; taken = r .taken; cache = r .cache }
 
@@ -122,6 +125,7 @@ zeroed-extract-by r extracted-answer = with-master (pack-master (view-master (r 
 zeroed-extract-by r already-answer = record { answer = r .answer; master = zero-master; joined = 0; taken = 0; cache = r .cache }
 zeroed-extract-by r (refused-extract n) = record { answer = r .answer; master = zero-master; joined = 0; taken = 0; cache = r .cache }
 
+-- the same by its own answer
 abbrev pub zeroed-extract : SubgraphExtract → SubgraphExtract
 zeroed-extract r = zeroed-extract-by r (r .answer)
 

@@ -1,5 +1,5 @@
--- Document 01, Tail ids: the rows as they are held, and what the code does to them and to the ids that wait, for every input, sound or not.
--- On packed rows and a packed cache this is the rule, packed (proofs/arrays/TailIdsLaws).
+-- RULES.md, Tail ids: the rows as they are held, and what the code does to them and to the ids that wait, for every input, sound or not. On packed
+-- rows and a packed cache this is the rule, packed (proofs/arrays/TailIdsLaws).
 -- Assumes nothing.
 use mathlib.Core.Bool.{Bool, _&&_, _||_, false, not, true}
 use mathlib.Core.List.{List, [], _++_, _∷_}
@@ -68,7 +68,7 @@ view-tails t = each view-tail (listed-tails t)
 
 -- ===== a row held =====
 
--- rows come by rising shard
+-- rows stand by shard
 abbrev pub row-before : TailIdsRow → TailIdsRow → Bool
 row-before a b = less-shard (a .shard) (b .shard)
 
@@ -84,7 +84,7 @@ row-at s r = same-shard (r .shard) s
 abbrev pub row-place : ShardIdent → TailRows → Place
 row-place s t = place (row-below s) (row-at s) (listed-tails t)
 
--- absent being least
+-- the order of ids, an absent one before all that are present
 abbrev pub less-last : LastId → LastId → Bool
 less-last a b = b .present && (not (a .present) || less-id (a .id) (b .id))
 
@@ -92,7 +92,7 @@ less-last a b = b .present && (not (a .present) || less-id (a .id) (b .id))
 abbrev pub put-row : TailIdsRow → TailRows → TailRows
 put-row r t = pick (leb (length (put row-before r (listed-tails t))) rows-limit) (with-rows (put row-before r (listed-tails t))) t
 
--- Per shard the pair held is replaced if its id is absent, or if the new id is less.
+-- an id takes the place of one held: that one is absent, or this one comes before it
 abbrev pub replaces-last : LastId → LastId → Bool
 replaces-last a h = not (h .present) || less-last a h
 
@@ -115,11 +115,11 @@ hold-row r t = row-held-at r (row-place (r .shard) t) t
 
 -- ===== what an id gives and queues =====
 
--- (asked id, its previous ids)
+-- the row of a cached block: the id that was looked up, and the block's previous ids
 abbrev pub cached-row : BlockId → PrevIds → TailIdsRow
 cached-row i ps = record { shard = id-shard i; id = pack-last (some i); «prev_ids» = ps }
 
--- (absent, itself)
+-- the row of a top that is not cached: no id, and the top itself as the previous one
 abbrev pub missing-row : BlockId → TailIdsRow
 missing-row i = record { shard = id-shard i; id = pack-last none; «prev_ids» = pack-prev-ids (i ∷ []) }
 
@@ -133,7 +133,7 @@ pub record TailStep : Type 0 where
 abbrev pub no-step : TailStep
 no-step = record { given = false; row = zero-tail; queued = zero-prev-ids }
 
--- the row of a cached block is given, and its previous ids are queued
+-- the row of a cached block is given, and the previous ids in it are queued
 abbrev pub cached-step : BlockId → PrevIds → TailStep
 cached-step i ps = record { given = true; row = cached-row i ps; queued = ps }
 
@@ -141,12 +141,13 @@ cached-step i ps = record { given = true; row = cached-row i ps; queued = ps }
 abbrev pub missing-step : BlockId → TailStep
 missing-step i = record { given = true; row = missing-row i; queued = zero-prev-ids }
 
--- A cached block gives (asked id, its previous ids) if taken as a top or naming M, and queues them. A missing top gives (absent, itself).
+-- by the block cached under the id's key: one that is a top or names M gives its row and queues its previous ids; a top that is not cached gives its
+-- row
 abbrev pub found-step : ℕ → Bool → BlockId → Option BlockCacheEntry → TailStep
 found-step m as-top i (some b) = pick (as-top || eqb (b .«ref_by_mc_seqno») m) (cached-step i (b .«prev_ids»)) no-step
 found-step m as-top i none = pick as-top (missing-step i) no-step
 
--- seqno 0 is skipped
+-- what an id of the walk gives and queues; nothing of seqno 0
 unfoldable pub step-of : Cache → ℕ → Bool → BlockId → TailStep
 step-of c m as-top i = pick (eqb (i .seqno) 0) no-step (found-step m as-top i (cached-block i c))
 
@@ -160,7 +161,7 @@ hold-given s t = pick (s .given) (hold-row (s .row) t) t
 abbrev pub two-ids : BlockId → Bool → BlockId → Bool → List BlockId
 two-ids a takes-a b takes-b = pick takes-a (a ∷ pick takes-b (b ∷ []) []) (pick takes-b (b ∷ []) [])
 
--- those that are not known yet, each once; none where 256 places would not hold them
+-- those that are not known yet, each once; none of them where known and new together are more than 256
 unfoldable pub fresh-ids : List BlockId → List BlockId → List BlockId
 fresh-ids known ps = pick (leb (length known + length (unknown-ids known ps)) queued-limit) (unknown-ids known ps) []
 
@@ -203,12 +204,12 @@ take-tail-id c m as-top w i = stepped (step-of c m as-top i) w
 abbrev pub take-queued-at : Cache → ℕ → ℕ → TailState → TailState
 take-queued-at c m j w = pick (ltb j (length (w .known))) (take-tail-id c m false w (getD (w .known) j zero-id)) w
 
--- first in, first out: those at so many places from place j on
+-- those at k places of the queue, from place j on
 unfoldable pub take-queued : ℕ → Cache → ℕ → ℕ → TailState → TailState
 take-queued zero c m j w = w
 take-queued (suc k) c m j w = take-queued k c m (j + 1) (take-queued-at c m j w)
 
--- (id, previous ids) of the master, then all tops in turn, and then each id queued once
+-- the master's own row, then its tops one by one, then each id of the queue
 unfoldable pub block-tails : MasterBlock → Cache → TailRows
 block-tails b c =
     take-queued queued-limit c (b .entry .«block_id» .seqno) 0
@@ -245,11 +246,11 @@ no-tails a = record { answer = a; tails = with-rows [] }
 abbrev pub given-tails : TailRows → TailIds
 given-tails t = record { answer = tails-given; tails = t }
 
--- 12. Tail ids above the zerostate: is the master entry cached?
+-- the tail ids of the master block found; 12 where none was found
 abbrev pub tails-at : Option MasterBlock → Cache → TailIds
 tails-at none c = no-tails (tails-refused 12)
 tails-at (some b) c = given-tails (block-tails b c)
 
--- seqno ≤ zerostate, empty
+-- no row up to the zerostate's seqno; above it the tail ids of the master at the seqno
 unfoldable pub read-tails : ℕ → Cache → TailIds
 read-tails n c = pick (leb n (c .«zerostate_mc_seqno»)) (no-tails tails-given) (tails-at (answered-master (master-at n (c .masters))) c)

@@ -1,5 +1,5 @@
--- Document 01, Whole cache, Validation: what the code does to a cache as it is held, for every cache, sound or not, and what its answer says.
--- On a packed cache this is the rule, packed (proofs/arrays/ValidationLaws).
+-- RULES.md, Validation: what the code does to a cache as it is held, for every cache, sound or not, and what its answer says. On a packed cache this
+-- is the rule, packed (proofs/arrays/ValidationLaws).
 -- Assumes nothing.
 use mathlib.Core.Bool.{false, true}
 use mathlib.Core.List.{[]}
@@ -24,6 +24,7 @@ use Rattle.cache_rules.specs.Effects.{result-status, validated-kind}
 
 -- ===== what a status and an answer say =====
 
+-- a validation's outcome as the rules have it
 abbrev pub view-validation : ValidationStatus → Validation
 view-validation (validation-complete handle weight) = complete handle weight
 view-validation validation-skipped = skipped
@@ -47,20 +48,21 @@ pack-kind k (some n) = record { changed = true; «data» = n }
 
 -- ===== the master block at a seqno =====
 
+-- no change
 abbrev pub kept-status : Cache → ValidationResult
 kept-status c = record { answer = status-kept; cache = c }
 
--- status, handle and weight are set and the new status returns; or no change
+-- the master block with its new kind, and the status as the answer; or no change
 abbrev pub held-validate-kind : Validation → MasterBlock → Option BlockCacheEntryData → Cache → ValidationResult
 held-validate-kind v b none c = kept-status c
 held-validate-kind v b (some k) c =
     record { answer = status-updated (result-status v); cache = with-master-group (put-master (with-block-data k b) (c .masters)) c }
 
--- If none stands there, the answer is no change.
+-- validation of the master block found; no change where none was found
 abbrev pub validate-block : Validation → Option MasterBlock → Cache → ValidationResult
 validate-block v none c = kept-status c
 validate-block v (some b) c = held-validate-kind v b (validated-kind v (block-kind b)) c
 
--- the master entry at the id's seqno; the rest of the id is not looked at
+-- validation of the master block at a seqno
 unfoldable pub validate-master : ℕ → Validation → Cache → ValidationResult
 validate-master n v c = validate-block v (answered-master (master-at n (c .masters))) c

@@ -1,4 +1,4 @@
--- Counts past their capacity in a cache as it is held, where a cache that no list of calls makes is given to a call.
+-- RULES.md, Soundness: counts past their capacity in a cache as it is held, where a cache that no list of calls makes is given to a call.
 -- Assumes nothing.
 use mathlib.Core.List.{List, [], _++_, _∷_}
 use mathlib.Core.Path.{_≡_, refl}
@@ -25,10 +25,12 @@ use Rattle.cache_rules.specs.Refusals.{further, sound-model}
 pub held-cache : Cache
 held-cache = pack (after (empty-model 0) (coll (mc 5) ∷ coll (sc 1) ∷ []))
 
+-- the first element changed
 pub on-first : {A : Type 0} → (A → A) → List A → List A
 on-first f [] = []
 on-first f (x ∷ xs) = f x ∷ xs
 
+-- an entry with this count of previous ids
 pub with-prev-count : ℕ → BlockCacheEntry → BlockCacheEntry
 with-prev-count n b =
     record {
@@ -40,12 +42,15 @@ with-prev-count n b =
       «data» = b .«data»;
     }
 
+-- top items with this count
 pub with-tops-count : ℕ → TopBlocks → TopBlocks
 with-tops-count n t = record { items = t .items; count = n }
 
+-- a group with its entries changed
 pub with-held-entries : (List BlockCacheEntry → List BlockCacheEntry) → Group → Group
 with-held-entries f g = record { entries = f (g .entries); count = g .count; mark = g .mark; boundary = g .boundary }
 
+-- a cache with its master entries and their top items changed
 pub with-held-masters : (Group → Group) → (List TopBlocks → List TopBlocks) → Cache → Cache
 with-held-masters f t c =
     record {
@@ -56,16 +61,20 @@ with-held-masters f t c =
       «shard_count» = c .«shard_count»;
     }
 
+-- a shard's group changed
 pub on-group : (Group → Group) → ShardGroup → ShardGroup
 on-group f g = record { shard = g .shard; group = f (g .group) }
 
+-- a cache with its shard groups changed
 pub with-held-shards : (List ShardGroup → List ShardGroup) → Cache → Cache
 with-held-shards f c =
     record { «zerostate_mc_seqno» = c .«zerostate_mc_seqno»; masters = c .masters; «data» = c .«data»; shards = f (c .shards); «shard_count» = c .«shard_count» }
 
+-- a group with this count
 pub with-count : ℕ → Group → Group
 with-count n g = record { entries = g .entries; count = n; mark = g .mark; boundary = g .boundary }
 
+-- the value itself
 pub unchanged : {A : Type 0} → A → A
 unchanged x = x
 
@@ -81,9 +90,11 @@ altered =
     ∷ with-held-masters (with-count 0) unchanged held-cache
     ∷ held-cache ∷ []
 
+-- what a peek from 0 answers
 pub peek-answer : Cache → Answer
 peek-answer c = call-on c (ask-call (peek 0)) .answer
 
+-- all but the last are refused by question 1
 pub cached-edges : each peek-answer altered ≡ replicate 6 (refused 1) ++ (nothing ∷ [])
 unfolding step same-shard less-shard same-id less-id is-masterchain after sound-model effect further call-on sound-cache same-cache same-data same-shard-group same-group same-master-group same-entry padded zero-shard zero-hash zero-id zero-prev-ids zero-top zero-tops zero-entry zero-group zero-shard-group hash block mc sc candidate ask-call cand coll held-cache on-first with-prev-count with-tops-count with-held-entries with-held-masters on-group with-held-shards with-count unchanged altered peek-answer
 cached-edges = refl

@@ -157,7 +157,7 @@ module _ {I : Type 0} where
         ap (λ (is : List I). fold (λ (is : List I) (e : E). select (stays (f e)) is) is es) (kept-step o (f e) ids) ∙ kept-fold (chosen choice o (f e)) es ids
 
   module _ {E : Type 0} (f : E → ℕ) (g : I → ℕ) where
-    -- for each removed at s, ids below s go: those below the highest
+    -- ids dropped below each element are those dropped below the highest
     pub below-go : (es : List E) (ids : List I) →
         fold (λ (is : List I) (e : E). select (λ (i : I). leb (f e) (g i)) is) ids es ≡ kept-by (λ (n : ℕ) (i : I). leb n (g i)) (highest-seqno (each f es)) ids
     below-go es ids = kept-fold (λ (n : ℕ) (i : I). leb n (g i)) higher-of both f none es ids
@@ -168,7 +168,7 @@ module _ {I : Type 0} where
             (λ t. rw t (on (leb n (g i)) (λ u. rw (u, le-leb k (g i) (omega (arith, ltb-true k n t, leb-true n (g i) u)))) (λ u. rw u (and-false (leb k (g i))))))
             (λ t. rw t (on (leb k (g i)) (λ u. rw (u, le-leb n (g i) (omega (arith, ltb-false k n t, leb-true k (g i) u)))) (λ u. rw u)))
 
-    -- for each removed at s, ids from s on go: those from the lowest on
+    -- ids dropped from each element on are those dropped from the lowest on
     pub from-go : (es : List E) (ids : List I) →
         fold (λ (is : List I) (e : E). select (λ (i : I). ltb (g i) (f e)) is) ids es ≡ kept-by (λ (n : ℕ) (i : I). ltb (g i) n) (lowest-seqno (each f es)) ids
     from-go es ids = kept-fold (λ (n : ℕ) (i : I). ltb (g i) n) lower-of both f none es ids

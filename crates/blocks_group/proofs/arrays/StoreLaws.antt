@@ -36,7 +36,7 @@ use Rattle.blocks_group.specs.rules.Group.{GroupModel, Stored, at-seqno,
 
 -- ===== the stores of the model =====
 
--- 7 and 8, in the order asked: is the place vacant or of the other kind; vacant: is there room?
+-- 7, then 8: no entry stands there or one that passes; an entry stands there or there is room
 abbrev pub place-questions : (Entry → Bool) → Option Entry → Bool → List Question
 place-questions other o room = ask 7 (vacant-or other o) ∷ ask 8 (present o || room) ∷ []
 

@@ -32,6 +32,7 @@ use Rattle.blocks_group.specs.arrays.Search.{seqno-place}
 abbrev pub held-seqno : BlockCacheEntry → ℕ
 held-seqno b = b .«block_id» .seqno
 
+-- entries stand by seqno
 abbrev pub held-before : BlockCacheEntry → BlockCacheEntry → Bool
 held-before a b = ltb (held-seqno a) (held-seqno b)
 
@@ -47,6 +48,7 @@ listed-seqnos g = each held-seqno (listed-entries g)
 abbrev pub master-seqno : MasterBlock → ℕ
 master-seqno b = held-seqno (b .entry)
 
+-- master blocks stand by seqno
 abbrev pub master-before : MasterBlock → MasterBlock → Bool
 master-before a b = ltb (master-seqno a) (master-seqno b)
 
@@ -110,6 +112,7 @@ when-found (vacant-at k) a = none
 abbrev pub answered-entry : EntryAt → Option BlockCacheEntry
 answered-entry a = when-found (a .found) (a .entry)
 
+-- the same of a master block
 abbrev pub answered-master : MasterAt → Option MasterBlock
 answered-master a = when-found (a .found) (a .block)
 
@@ -139,6 +142,7 @@ retain-entries r g = with-records (select (retains r) (listed-entries g)) g
 abbrev pub retain-masters : Retained → MasterGroup → MasterGroup
 retain-masters r g = with-master-blocks (select (λ (b : MasterBlock). retains r (b .entry)) (listed-masters g)) g
 
+-- all master blocks but that of the seqno
 abbrev pub remove-master : ℕ → MasterGroup → MasterGroup
 remove-master n g = retain-masters (retain-but n) g
 
@@ -148,5 +152,6 @@ remove-master n g = retain-masters (retain-but n) g
 abbrev pub set-group-boundary : BlockIdShort → Group → Group
 set-group-boundary k g = record { entries = g .entries; count = g .count; mark = g .mark; boundary = boundary-at k }
 
+-- the same of the master group
 abbrev pub set-master-boundary : BlockIdShort → MasterGroup → MasterGroup
 set-master-boundary k g = record { group = set-group-boundary k (g .group); tops = g .tops }

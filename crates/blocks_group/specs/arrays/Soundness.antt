@@ -1,4 +1,4 @@
--- Document 01, question 1 of one group, part by part, as the code asks it of the arrays; proofs/arrays/SoundnessLaws says that it is the same.
+-- RULES.md, Soundness: of one group, part by part, as the code asks it of the arrays; proofs/arrays/SoundnessLaws says that it is the same.
 -- Assumes nothing.
 use mathlib.Core.Bool.{Bool, _&&_}
 use mathlib.Core.List.{List}
@@ -22,7 +22,7 @@ use Rattle.blocks_group.specs.arrays.Group.{held-before, listed-entries,
 use Rattle.blocks_group.specs.layout.Group.{view-boundary}
 use Rattle.blocks_group.specs.rules.Soundness.{boundary-in}
 
--- a listed entry of a shard: zeros in unused places, of the group's shard, questions 2 to 4 true of it
+-- a listed entry of a shard: tidy, of a shard that the group is for, passing questions 2 to 4
 abbrev pub sound-entry : (ShardIdent → Bool) → BlockCacheEntry → Bool
 sound-entry p b = entry-tidy b && (p (id-shard (b .«block_id»)) && held-entry-fits b zero-tops)
 
@@ -30,13 +30,15 @@ sound-entry p b = entry-tidy b && (p (id-shard (b .«block_id»)) && held-entry-
 abbrev pub sound-master : MasterBlock → Bool
 sound-master b = entry-tidy (b .entry) && (tops-tidy (b .tops) && (is-masterchain (id-shard (b .entry .«block_id»)) && held-entry-fits (b .entry) (b .tops)))
 
--- the boundary absent, or of the group
+-- no boundary, or one of a shard that the group is for
 abbrev pub held-boundary-in : (ShardIdent → Bool) → Boundary → Bool
 held-boundary-in p b = boundary-in p (view-boundary b)
 
+-- zeros in every place from n on
 abbrev pub entries-zero-beyond : ℕ → List BlockCacheEntry → Bool
 entries-zero-beyond n bs = every is-zero-entry (drop n bs)
 
+-- the same of top items
 abbrev pub tops-zero-beyond : ℕ → List TopBlocks → Bool
 tops-zero-beyond n ts = every is-zero-tops (drop n ts)
 

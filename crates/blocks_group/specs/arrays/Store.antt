@@ -1,5 +1,5 @@
--- Document 01, Group: the collated and the received store of one group, for every group, sound or not. What a store does at its seqno is said
--- once, for a shard's group and the master group.
+-- RULES.md, Collated store and Received store: of one group, for every group, sound or not. What a store does at its seqno is said once, for a
+-- shard's group and the master group.
 -- Assumes nothing.
 use mathlib.Core.Bool.{Bool, false, true}
 use mathlib.Core.Option.{Option, Option·map, none, some}
@@ -34,9 +34,11 @@ pub record Step : Type 0 where
   pub answer : StoreAnswer
   pub change : Option MasterBlock
 
+-- refused, with no change
 abbrev pub refused-step : ℕ → Step
 refused-step number = record { answer = refused-answer number; change = none }
 
+-- stored, with the two flags and the change
 abbrev pub stored-step : Bool → Bool → Option MasterBlock → Step
 stored-step both mismatch change = record { answer = stored-answer both mismatch; change = change }
 
@@ -44,12 +46,13 @@ stored-step both mismatch change = record { answer = stored-answer both mismatch
 abbrev pub with-block-data : BlockCacheEntryData → MasterBlock → MasterBlock
 with-block-data k b = record { entry = with-data k (b .entry); tops = b .tops }
 
+-- the kind of a block
 abbrev pub block-kind : MasterBlock → BlockCacheEntryData
 block-kind b = b .entry .«data»
 
--- Collated store, by whether there is room for one more entry and what stands at the candidate's seqno. Vacant, a fresh entry goes in, (no, no);
--- without room, 8. Collated: 7. Received under the same id, collated-after becomes true, a shard entry takes the candidate's processed-to anchor
--- as additional anchor, (yes, no). Received under another id: nothing changes, (no, yes).
+-- The collated store, by whether the group has a place left and by the block at the candidate's seqno. None: a fresh one, or 8 if no place is left. A
+-- Collated one: 7. A Received one with the candidate's id: its kind becomes `collated-kind`, and both is answered; with another id it stays, and
+-- mismatch is answered.
 unfoldable pub collated-step : BlockCandidate → Bool → Option MasterBlock → Step
 collated-step c room none = pick room (stored-step false false (some (pack-master (fresh-collated c)))) (refused-step 8)
 collated-step c room (some b) =
@@ -59,8 +62,8 @@ collated-step c room (some b) =
     (stored-step false true none))
     (refused-step 7)
 
--- Received store, once the mark's rule gave no mark. Vacant: a fresh entry, (no, no); without room, 8. Received: 7. Collated under the same id:
--- received-after true, status Synced, (yes, no). Collated under another id: replaced by a fresh entry, (no, yes).
+-- The received store of a block that is not synced, by the same two. None: a fresh one, or 8 if no place is left. A Received one: 7. A Collated one
+-- with the block's id: its kind becomes `received-kind`, and both is answered; with another id a fresh one takes its place, and mismatch is answered.
 unfoldable pub received-step : ℕ → ReceivedBlock → Bool → Option MasterBlock → Step
 received-step zerostate r room none = pick room (stored-step false false (some (pack-master (fresh-received zerostate r)))) (refused-step 8)
 received-step zerostate r room (some b) =
@@ -69,17 +72,18 @@ received-step zerostate r room (some b) =
     (stored-step true false (some (with-block-data (received-kind (block-kind b)) b)))
     (stored-step false true (some (pack-master (fresh-received zerostate r)))))
 
--- A step as the code hands it on: where it changes nothing, the block is the one that was looked at.
+-- the changed block, or the one that was looked at
 abbrev pub changed-block : MasterBlock → Option MasterBlock → MasterBlock
 changed-block b none = b
 changed-block b (some a) = a
 
+-- a step as the code hands it on
 abbrev pub pack-step : MasterBlock → Step → StoreStep
 pack-step b s = record { answer = s .answer; changed = present (s .change); block = changed-block b (s .change) }
 
 -- ===== a shard's group =====
 
--- under 16 entries
+-- fewer entries are listed than there are places
 abbrev pub has-place : Group → Bool
 has-place g = ltb (length (listed-entries g)) entries-limit
 
@@ -91,11 +95,12 @@ without-tops b = record { entry = b; tops = zero-tops }
 abbrev pub block-at : ℕ → Group → Option MasterBlock
 block-at n g = Option·map without-tops (answered-entry (entry-at n g))
 
+-- the change put into the group, if there is one
 abbrev pub put-change : Option MasterBlock → Group → Group
 put-change none g = g
 put-change (some b) g = put-entry (b .entry) g
 
--- The mark becomes seqno, unless it is that or above.
+-- the mark raised to the seqno, if it is lower or absent
 abbrev pub refresh-group : ℕ → Group → Group
 refresh-group n g =
     record { entries = g .entries; count = g .count; mark = pack-mark (refreshed-mark n (view-mark (g .mark))); boundary = g .boundary }
@@ -105,9 +110,11 @@ abbrev pub put-refreshed : ℕ → Option MasterBlock → Group → Group
 put-refreshed n none g = g
 put-refreshed n (some b) g = refresh-group n (put-entry (b .entry) g)
 
+-- the step's answer, and the group with its change
 abbrev pub collated-in : Step → Group → GroupStore
 collated-in s g = record { answer = s .answer; group = put-change (s .change) g }
 
+-- the same, and the mark refreshed with the change
 abbrev pub received-in : ℕ → Step → Group → GroupStore
 received-in n s g = record { answer = s .answer; group = put-refreshed n (s .change) g }
 
@@ -115,7 +122,7 @@ received-in n s g = record { answer = s .answer; group = put-refreshed n (s .cha
 unfoldable pub store-collated-block : BlockCandidate → Group → GroupStore
 store-collated-block c g = collated-in (collated-step c (has-place g) (block-at (c .«block_id» .seqno) g)) g
 
--- the mark's rule gives a mark
+-- the mark reaches the seqno
 abbrev pub known-synced : ℕ → Mark → Bool
 known-synced n m = present (given-mark n (view-mark m))
 
@@ -123,7 +130,7 @@ known-synced n m = present (given-mark n (view-mark m))
 abbrev pub group-synced : ℕ → Group → Bool
 group-synced n g = known-synced n (g .mark)
 
--- Received store: first the mark's rule; if it gives a mark, the answer is Synced and nothing changes. Else the step, and the mark is refreshed.
+-- Received store: where the group's mark reaches the block's seqno, Synced and the group as it was; else the step at what stands at that seqno.
 unfoldable pub store-received-block : ℕ → ReceivedBlock → Group → GroupStore
 store-received-block zerostate r g =
     pick (known-synced (r .«block_id» .seqno) (g .mark))
@@ -132,20 +139,25 @@ store-received-block zerostate r g =
 
 -- ===== the master group =====
 
+-- the change put into the master group, if there is one
 abbrev pub put-master-change : Option MasterBlock → MasterGroup → MasterGroup
 put-master-change none g = g
 put-master-change (some b) g = put-master b g
 
+-- the master group's mark refreshed
 abbrev pub refresh-masters : ℕ → MasterGroup → MasterGroup
 refresh-masters n g = record { group = refresh-group n (g .group); tops = g .tops }
 
+-- the change put in and the mark refreshed; without a change neither
 abbrev pub put-master-refreshed : ℕ → Option MasterBlock → MasterGroup → MasterGroup
 put-master-refreshed n none g = g
 put-master-refreshed n (some b) g = refresh-masters n (put-master b g)
 
+-- the step's answer, and the master group with its change
 abbrev pub collated-master-in : Step → MasterGroup → MasterStore
 collated-master-in s g = record { answer = s .answer; masters = put-master-change (s .change) g }
 
+-- the same, and the mark refreshed with the change
 abbrev pub received-master-in : ℕ → Step → MasterGroup → MasterStore
 received-master-in n s g = record { answer = s .answer; masters = put-master-refreshed n (s .change) g }
 

@@ -1,4 +1,4 @@
--- Document 01, question 1, of one group.
+-- RULES.md, Soundness: of one group.
 -- Assumes nothing.
 use mathlib.Core.Bool.{Bool, _&&_, true}
 use mathlib.Core.Option.{Option, none, some}
@@ -13,20 +13,20 @@ use Rattle.block_records.specs.rules.Lists.{every, rising}
 use Rattle.block_records.specs.rules.Questions.{entry-fits}
 use Rattle.blocks_group.specs.rules.Group.{GroupModel, entry-before}
 
--- each boundary of its group
+-- no boundary, or one of a shard that the group is for
 abbrev pub boundary-in : (ShardIdent → Bool) → Option BlockIdShort → Bool
 boundary-in p none = true
 boundary-in p (some k) = p (key-shard k)
 
--- of its group's shard, and questions 2 to 4 true of it
+-- the entry is of a shard that the group is for, and passes questions 2 to 4
 abbrev pub fits-in : (ShardIdent → Bool) → Entry → Bool
 fits-in p e = p (id-shard (e .id)) && entry-fits e
 
--- At most 16 entries by rising seqno, all of the shards that the group is for, each of which fits; its boundary is of such a shard too.
+-- No more entries than the limit, rising by seqno, each of a shard that the group is for and fitting; the boundary of such a shard too.
 abbrev pub sound-group-model : (ShardIdent → Bool) → GroupModel → Bool
 sound-group-model p g =
     leb (length (g .entries)) entries-limit && (rising entry-before (g .entries) && (every (fits-in p) (g .entries) && boundary-in p (g .boundary)))
 
--- the group of one shard
+-- what a shard's group is for: that shard alone
 abbrev pub of-shard : ShardIdent → ShardIdent → Bool
 of-shard s t = same-shard t s

@@ -1,4 +1,4 @@
-//! Answers a script on standard input, by the second reading of document 01. With the word `lines`, each line that it prints begins with the number of the script's line.
+//! Answers a script on standard input, by the second reading of the rules. With the word `lines`, each line that it prints begins with the number of the script's line.
 use std::io::{BufRead, BufReader, Write};
 
 use reading::replay::Replay;

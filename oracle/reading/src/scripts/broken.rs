@@ -10,7 +10,7 @@ pub type Break = fn(&mut Places, &mut Random);
 
 /// Each break of `rich` caches, by the clause that it breaks.
 pub const BREAKS: &[(&str, Break)] = &[
-    // Order, by rising seqno and by rising shard.
+    // Order, of seqnos and of shards.
     ("masters out of order", |p, _| swap_masters(p)),
     ("two masters of one seqno", |p, _| p.masters.entries[1].id.key.seqno = p.masters.entries[0].id.seqno()),
     ("shard blocks out of order", |p, _| p.shards[0].entries.swap(0, 1)),
@@ -67,7 +67,7 @@ pub const BREAKS: &[(&str, Break)] = &[
     ("range start above end", |p, _| p.range = p.range.map(|(_, end)| (end.wrapping_add(1), end))),
     ("range end above the mark", |p, _| p.range = Some((0, p.masters.mark.unwrap_or(0).wrapping_add(1)))),
     ("range without a mark", |p, _| p.masters.mark = None),
-    // Zeros in unused places, each field in turn.
+    // Something in an unused place, each field in turn.
     ("spare master", |p, r| spoil_entry(&mut p.masters.entries[15], r)),
     ("spare block", |p, r| spoil_entry(&mut p.shards[0].entries[15], r)),
     ("spare block of a spare shard", |p, r| spoil_entry(&mut p.shards[7].entries[0], r)),

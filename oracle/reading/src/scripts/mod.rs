@@ -17,7 +17,7 @@ use scene::Scene;
 
 #[derive(Clone, Copy, PartialEq, Eq, Debug)]
 pub enum Mode {
-    /// Only calls that the original can answer as document 01 says.
+    /// Only calls that the original can answer as the rules say.
     Domain,
     /// Every line of the language, the added refusals and broken caches too.
     Full,
@@ -158,7 +158,7 @@ impl Script {
         }
     }
 
-    /// What the original answers as document 01 says. Not: the added refusals; 7 of a received store, where it has refreshed the mark; 5 and 6 at once; a payload at the
+    /// What the original answers as the rules say. Not: the added refusals; 7 of a received store, where it has refreshed the mark; 5 and 6 at once; a payload at the
     /// zerostate; tail ids over a graph with too many paths.
     fn in_domain(&self, request: &Request) -> bool {
         let (cache, rules) = (self.cache(), &self.replay.rules);

@@ -1,4 +1,4 @@
--- On mismatch the ids go.
+-- On a mismatch ids are dropped.
 -- Assumes nothing.
 use borrow.Author.Needs.{needs}
 use Rattle.blocks_cache.proofs.stores.ids_after.Statement.{statement}

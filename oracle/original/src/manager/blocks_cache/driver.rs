@@ -234,7 +234,7 @@ impl Driver {
         let taken = if cfg!(feature = "count") {
             crate::counted::TAKEN.get()
         } else {
-            // The requirements' sum: the starting ids plus the previous ids of every joined block.
+            // The rules' sum: an id for each starting item, and one for each previous id of a joined block.
             let zerostate = self.cache.inner.zerostate_mc_seqno;
             let starting = master.tops.iter().filter(|t| t.updated && t.reference > zerostate).count();
             (starting + blocks.iter().map(|b| b.prev.len()).sum::<usize>()) as u64
