@@ -9,6 +9,7 @@ use lib.IntN.{pos}
 use lib.ListN.{drop, replicate}
 use Rattle.block_records.specs.declared.block_id.BlockId.{BlockId}
 use Rattle.block_records.specs.declared.entry.BlockCacheEntry.{BlockCacheEntry}
+use Rattle.block_records.specs.declared.entry.CandidateStatus.the-variants.{Validated}
 use Rattle.block_records.specs.declared.store_records.Anchor.the-variants.{Absent}
 use Rattle.block_records.specs.declared.store_records.Keys.{Keys}
 use Rattle.block_records.specs.declared.store_records.PrevIds.{PrevIds}
@@ -16,10 +17,11 @@ use Rattle.block_records.specs.declared.top_block.TopBlocks.{TopBlocks}
 use Rattle.block_records.specs.layout.Entry.{pack-prev-ids, pack-tops}
 use Rattle.block_records.specs.layout.Zeros.{zero-entry, zero-id, zero-top}
 use Rattle.block_records.specs.rules.BlockId.{is-masterchain, key, less-id, less-shard, same-id, same-shard}
+use Rattle.block_records.specs.rules.Entry.{Entry, status-number}
 use Rattle.block_records.specs.rules.Lists.{each, flat-map, padded}
 use Rattle.blocks_group.specs.rules.Group.{with-mark}
-use Rattle.cache_rules.specs.Calls.{Answer, Call, Outcome, collect, pop, read-tail-ids, refused, remove-next-collated, set-boundary, store-collated, store-received, stored, sync, tail-ids}
-use Rattle.cache_rules.specs.CaseCalls.{ask-call, block, cand, candidate, coll, hash, keys, mc, pop-call, recv, sc, slice, sync-call, top}
+use Rattle.cache_rules.specs.Calls.{Answer, Call, Outcome, collect, complete, pop, read-tail-ids, refused, remove-next-collated, set-boundary, store-collated, store-received, store-validation, stored, sync, tail-ids, validated}
+use Rattle.cache_rules.specs.CaseCalls.{ask-call, block, cand, candidate, coll, hash, keys, mc, mc′, pop-call, recv, sc, slice, sync-call, top}
 use Rattle.cache_rules.specs.Effects.{after, effect, run, step}
 use Rattle.cache_rules.specs.Model.{Model, Range, empty-model}
 use Rattle.cache_rules.specs.Refusals.{further, sound-model}
@@ -172,3 +174,26 @@ unmarked =
 pub received-twice : (sound-model unmarked ≡ true) × (step unmarked (recv (mc 5) []) .answer ≡ refused 7)
 unfolding step same-shard less-shard same-id less-id is-masterchain after sound-model effect further padded zero-id zero-top hash block mc ask-call recv unmarked
 received-twice = (refl, refl)
+
+-- ===== what is told by the seqno or the kind alone =====
+
+-- the ids of the cached masters
+pub master-ids : Model → List BlockId
+master-ids m = each (λ (e : Entry). e .id) (m .masters .entries)
+
+-- m6 is received and m7 collated: removal above m5 takes m7, and m6 stays
+pub removal-keeps-received :
+    master-ids (after (empty-model 0) (recv (mc 6) [] ∷ coll (mc 7) ∷ ask-call (remove-next-collated (keys (key (mc 5) ∷ []))) ∷ [])) ≡ mc 6 ∷ []
+unfolding step same-shard less-shard same-id less-id is-masterchain after sound-model effect further padded zero-id zero-top hash block mc candidate ask-call cand coll recv keys master-ids
+removal-keeps-received = refl
+
+-- a validation of m5' finds m5, which has its seqno
+pub validation-by-seqno :
+    answers 0 (coll (mc 5) ∷ ask-call (store-validation (mc′ 5) (complete 1 9)) ∷ []) ≡ nn-answer (some (mc 5)) ∷ validated (status-number Validated) ∷ []
+unfolding step same-shard less-shard same-id less-id is-masterchain run sound-model effect further padded zero-id zero-top hash block mc mc′ candidate ask-call cand coll outcome-answer answers nn-answer
+validation-by-seqno = refl
+
+-- and so does a sync extraction at m5'
+pub sync-by-seqno : master-ids (after (empty-model 0) (coll (mc 5) ∷ sync-call (mc′ 5) ∷ [])) ≡ []
+unfolding step same-shard less-shard same-id less-id is-masterchain after sound-model effect further padded zero-id zero-top zero-entry hash block mc mc′ candidate ask-call cand coll slice sync-call master-ids
+sync-by-seqno = refl
