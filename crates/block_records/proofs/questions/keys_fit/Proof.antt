@@ -1,13 +1,12 @@
 -- The invariant of the loop: what is left of the first `count` decides.
 -- Assumes nothing.
 use Prim.Native.Nat.{_≤_, _-_}
-use mathlib.Core.Path.{_≡_, sym, _∙_}
-use native.Mathlib.Nat.{sub-zero}
+use mathlib.Core.Path.{ap, _≡_, sym, _∙_}
 use native.Mathlib.Omega.{arith}
 use borrow.Author.Needs.{needs}
 use borrow.Author.Tests.{not-true, not-false}
 use lib.ListN.{length, take}
-use Rattle.block_records.proofs.arrays.LoopLaws.{count-end, count-next, count-passed, count-stop, left, length-mapped}
+use Rattle.block_records.proofs.arrays.LoopLaws.{count-end, count-next, count-passed, count-stop, left, left-start, length-mapped}
 use Rattle.block_records.specs.rules.Lists.{every}
 use Rattle.block_records.specs.rules.Questions.{key-fits}
 use Rattle.block_records.specs.layout.Zeros.{zero-key}
@@ -25,7 +24,7 @@ long : (c : tie.Start Inv-loop μ-loop) → length (c .args .given .keys) ≡ 9
 long c = search (needs, length-mapped)
 
 loop-holds : tie.Need-loop-holds Inv-loop μ-loop
-loop-holds c = (search needs, rw sub-zero)
+loop-holds c = (search needs, ap (every key-fits) (sym (left-start (c .before .args .given .keys) (c .before .args .given .count))))
 
 -- `v` is the record after the call, `u` that after the test of the count, `t` that of the turn, `h` that of the loop's head, `s` that of the start
 returns : tie.Need-returns Inv-loop μ-loop
