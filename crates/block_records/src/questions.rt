@@ -12,7 +12,7 @@ use crate::store_records::{BlockCandidate, Keys, PrevIds, ReceivedBlock};
 use crate::top_block::{TopBlock, TopBlocks};
 
 // The number of the first question whose answer is no.
-#[derive(Drop)]
+#[derive(Clone, Copy)]
 pub enum Refusal {
     Absent,
     Number(u32),

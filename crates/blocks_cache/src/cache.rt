@@ -7,13 +7,13 @@ use block_records::block_id::{ShardIdent, zero_id, zero_shard};
 use block_records::limits::{IDS_LIMIT, NO_CACHE_SHARDS, SHARDS_LIMIT};
 use blocks_group::group::{Group, MasterGroup, zero_group, zero_master_group};
 
-#[derive(Drop)]
+#[derive(Clone, Copy)]
 pub struct ShardGroup {
     pub shard: ShardIdent,
     pub group: Group,
 }
 
-#[derive(Drop)]
+#[derive(Clone, Copy)]
 pub struct Cache {
     pub zerostate_mc_seqno: u32,
     pub masters: MasterGroup,
@@ -22,14 +22,14 @@ pub struct Cache {
     pub shard_count: usize,
 }
 
-#[derive(Drop)]
+#[derive(Clone, Copy)]
 pub enum NewCacheAnswer {
     Made,
     Refused(u32),
 }
 
 // A new cache, or the number of its refusal, beside which stands a cache on which every call answers 1.
-#[derive(Drop)]
+#[derive(Clone, Copy)]
 pub struct NewCache {
     pub answer: NewCacheAnswer,
     pub cache: Cache,

@@ -21,13 +21,13 @@ use blocks_group::queries::{
     remove_collated_above, remove_collated_masters_above,
 };
 
-#[derive(Drop)]
+#[derive(Clone, Copy)]
 pub enum ChangeAnswer {
     Done,
     Refused(u32),
 }
 
-#[derive(Drop)]
+#[derive(Clone, Copy)]
 pub struct CacheChange {
     pub answer: ChangeAnswer,
     pub cache: Cache,

@@ -30,7 +30,7 @@ use blocks_group::queries::{any_applied_above, first_applied_master};
 use blocks_group::refresh::refresh_masters;
 
 // What an extraction leaves of the shard groups, the joined blocks (the newest first, zeros after them), their number and that of the ids taken.
-#[derive(Drop)]
+#[derive(Clone, Copy)]
 pub(crate) struct Extraction {
     pub shards: [ShardGroup; SHARDS_LIMIT],
     pub blocks: [BlockCacheEntry; SLICE_PLACES],
@@ -39,7 +39,7 @@ pub(crate) struct Extraction {
 }
 
 // The ids that wait, with those that were taken before them.
-#[derive(Drop)]
+#[derive(Clone, Copy)]
 pub(crate) struct WaitingList {
     pub ids: [BlockId; WAITING_PLACES],
     pub count: usize,
@@ -233,13 +233,13 @@ fn extraction_of(cache: Cache, master: MasterBlock) -> Extraction
 // ===== pop and sync extraction =====
 
 // Pop from a seqno on; sync extraction at a seqno.
-#[derive(Drop)]
+#[derive(Clone, Copy)]
 pub enum ExtractRequest {
     Pop(u32),
     Sync(u32),
 }
 
-#[derive(Drop)]
+#[derive(Clone, Copy)]
 pub enum ExtractAnswer {
     Popped { last: bool },
     Extracted,
@@ -248,7 +248,7 @@ pub enum ExtractAnswer {
 }
 
 // M with its top items, the number of blocks beside it and of ids taken; zeros where the answer hands out nothing.
-#[derive(Drop)]
+#[derive(Clone, Copy)]
 pub struct SubgraphExtract {
     pub answer: ExtractAnswer,
     pub master: MasterBlock,
@@ -258,7 +258,7 @@ pub struct SubgraphExtract {
 }
 
 // The same with the joined blocks, and zeros after them.
-#[derive(Drop)]
+#[derive(Clone, Copy)]
 pub struct ExtractWithBlocks {
     pub extract: SubgraphExtract,
     pub blocks: [BlockCacheEntry; SLICE_PLACES],

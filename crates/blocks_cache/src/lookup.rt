@@ -11,21 +11,21 @@ use blocks_group::group::Group;
 use blocks_group::mark::Mark;
 
 // An entry's seqno, and whether the entry is still cached.
-#[derive(Drop)]
+#[derive(Clone, Copy)]
 pub(crate) struct EntrySeqno {
     pub seqno: u32,
     pub cached: bool,
 }
 
 // The seqnos of a group's entries, in their places, and its mark.
-#[derive(Drop)]
+#[derive(Clone, Copy)]
 pub(crate) struct GroupSeqnos {
     pub entries: [EntrySeqno; ENTRIES_LIMIT],
     pub mark: Mark,
 }
 
 // Where a block is cached: the place of its group, and its own in it.
-#[derive(Drop)]
+#[derive(Clone, Copy)]
 pub(crate) enum BlockPlace {
     At(usize, usize),
     Absent,

@@ -15,14 +15,14 @@ use block_records::limits::IDS_LIMIT;
 use block_records::place::{Place, listed_count};
 use blocks_group::mark::Mark;
 
-#[derive(Drop)]
+#[derive(Clone, Copy)]
 pub enum AppliedRange {
     Absent,
     Over(u32, u32),
 }
 
 // The last collated ids by seqno, in 32 places, with the applied range.
-#[derive(Drop)]
+#[derive(Clone, Copy)]
 pub struct MasterData {
     pub ids: [BlockId; IDS_LIMIT],
     pub count: usize,
@@ -30,14 +30,14 @@ pub struct MasterData {
 }
 
 // The last of the ids; where there is none, a zero id.
-#[derive(Drop)]
+#[derive(Clone, Copy)]
 pub struct LastId {
     pub present: bool,
     pub id: BlockId,
 }
 
 // Which ids stay: from a seqno on; below a seqno.
-#[derive(Drop)]
+#[derive(Clone, Copy)]
 pub enum RetainedIds {
     From(u32),
     Below(u32),

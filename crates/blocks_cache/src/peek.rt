@@ -20,7 +20,7 @@ use block_records::top_block::TopBlocks;
 use blocks_group::queries::first_applied_master;
 
 // What is shown of a block.
-#[derive(Drop)]
+#[derive(Clone, Copy)]
 pub struct PeekRow {
     pub block_id: BlockId,
     pub ref_by_mc_seqno: u32,
@@ -28,13 +28,13 @@ pub struct PeekRow {
 }
 
 // The key of the first starting item that has no row, if there is one.
-#[derive(Drop)]
+#[derive(Clone, Copy)]
 pub enum MissingTop {
     Absent,
     At(BlockIdShort),
 }
 
-#[derive(Drop)]
+#[derive(Clone, Copy)]
 pub enum PeekAnswer {
     Found,
     Nothing,
@@ -42,7 +42,7 @@ pub enum PeekAnswer {
 }
 
 // The master's row and those of its tops; zeros beyond the count, and where nothing is found.
-#[derive(Drop)]
+#[derive(Clone, Copy)]
 pub struct Peek {
     pub answer: PeekAnswer,
     pub master: PeekRow,
@@ -52,7 +52,7 @@ pub struct Peek {
 }
 
 // The tops' rows, zeros after them, and the one that is missing.
-#[derive(Drop)]
+#[derive(Clone, Copy)]
 pub(crate) struct TopRows {
     pub rows: [PeekRow; TOPS_LIMIT],
     pub count: usize,

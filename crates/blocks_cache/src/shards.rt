@@ -9,7 +9,7 @@ use block_records::block_id::{ShardIdent, less_shard, same_shard, zero_shard};
 use block_records::limits::SHARDS_LIMIT;
 use block_records::place::{Place, listed_count};
 
-#[derive(Drop)]
+#[derive(Clone, Copy)]
 pub struct Shards {
     pub groups: [ShardGroup; SHARDS_LIMIT],
     pub count: usize,

@@ -23,7 +23,7 @@ use blocks_group::store::{
 };
 
 // What a store leaves and answers. Synced and refusals carry no further values: the id is absent, over zeros, and so is the range.
-#[derive(Drop)]
+#[derive(Clone, Copy)]
 pub struct BlockCacheStoreResult {
     pub answer: StoreAnswer,
     pub last_collated_mc_block_id: LastId,
@@ -32,7 +32,7 @@ pub struct BlockCacheStoreResult {
 }
 
 // A shard's group, empty where there is none yet, and whether it stands in the cache or can be put there.
-#[derive(Drop)]
+#[derive(Clone, Copy)]
 pub(crate) struct ShardHeld {
     pub room: bool,
     pub group: Group,

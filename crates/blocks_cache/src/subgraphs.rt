@@ -59,7 +59,7 @@ pub fn extract_mc_block_subgraph_for_sync(
     extract_mc_block_subgraph(cache, request, out)
 }
 
-#[derive(Drop)]
+#[derive(Clone, Copy)]
 pub struct ArrayExtract {
     pub extract: SubgraphExtract,
     pub blocks: [BlockCacheEntry; ARRAY_PLACES],

@@ -30,7 +30,7 @@ use block_records::top_block::TopBlocks;
 use blocks_group::group::master_at;
 
 // Of a shard: an id or absent over zeros, and previous ids.
-#[derive(Drop)]
+#[derive(Clone, Copy)]
 pub struct TailIdsRow {
     pub shard: ShardIdent,
     pub id: LastId,
@@ -38,14 +38,14 @@ pub struct TailIdsRow {
 }
 
 // The rows in 17 places, by shard.
-#[derive(Drop)]
+#[derive(Clone, Copy)]
 pub struct TailRows {
     pub rows: [TailIdsRow; ROWS_LIMIT],
     pub count: usize,
 }
 
 // The rows so far, and the ids that were queued, each once, with their fingerprints: at most 256, and two places more, so that two can always be written.
-#[derive(Drop)]
+#[derive(Clone, Copy)]
 pub(crate) struct TailWalk {
     pub tails: TailRows,
     pub ids: [BlockId; QUEUED_PLACES],
@@ -53,14 +53,14 @@ pub(crate) struct TailWalk {
     pub count: usize,
 }
 
-#[derive(Drop)]
+#[derive(Clone, Copy)]
 pub enum TailAnswer {
     Rows,
     Refused(u32),
 }
 
 // The rows, zeros in the places that are left; none beside a refusal.
-#[derive(Drop)]
+#[derive(Clone, Copy)]
 pub struct TailIds {
     pub answer: TailAnswer,
     pub tails: TailRows,

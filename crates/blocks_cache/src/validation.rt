@@ -16,27 +16,27 @@ use block_records::place::Place;
 use block_records::questions::id_fits;
 use blocks_group::group::{MasterGroup, master_at, put_master};
 
-#[derive(Drop)]
+#[derive(Clone, Copy)]
 pub enum ValidationStatus {
     Complete { signatures: u64, total_weight: u64 },
     Skipped,
 }
 
-#[derive(Drop)]
+#[derive(Clone, Copy)]
 pub enum ValidationAnswer {
     Updated(CandidateStatus),
     NoChange,
     Refused(u32),
 }
 
-#[derive(Drop)]
+#[derive(Clone, Copy)]
 pub struct ValidationResult {
     pub answer: ValidationAnswer,
     pub cache: Cache,
 }
 
 // An entry's kind after validation, and whether it is another than before.
-#[derive(Drop)]
+#[derive(Clone, Copy)]
 pub(crate) struct ValidatedKind {
     pub changed: bool,
     pub data: BlockCacheEntryData,

@@ -14,13 +14,13 @@ use block_records::limits::ENTRIES_LIMIT;
 use block_records::place::{Place, listed_count};
 use block_records::top_block::{TopBlocks, zero_tops};
 
-#[derive(Drop)]
+#[derive(Clone, Copy)]
 pub enum Boundary {
     Absent,
     At(BlockIdShort),
 }
 
-#[derive(Drop)]
+#[derive(Clone, Copy)]
 pub struct Group {
     pub entries: [BlockCacheEntry; ENTRIES_LIMIT],
     pub count: usize,
@@ -28,27 +28,27 @@ pub struct Group {
     pub boundary: Boundary,
 }
 
-#[derive(Drop)]
+#[derive(Clone, Copy)]
 pub struct MasterGroup {
     pub group: Group,
     pub tops: [TopBlocks; ENTRIES_LIMIT],
 }
 
 // What stands at a seqno; zeros where nothing does.
-#[derive(Drop)]
+#[derive(Clone, Copy)]
 pub struct EntryAt {
     pub found: Place,
     pub entry: BlockCacheEntry,
 }
 
-#[derive(Drop)]
+#[derive(Clone, Copy)]
 pub struct MasterAt {
     pub found: Place,
     pub block: MasterBlock,
 }
 
 // Which entries stay: from a seqno on; up to a seqno or Received; all but that of a seqno.
-#[derive(Drop)]
+#[derive(Clone, Copy)]
 pub enum Retained {
     From(u32),
     UpToOrReceived(u32),

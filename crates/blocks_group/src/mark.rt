@@ -4,14 +4,14 @@ ghost use Rattle.blocks_group.specs.arrays.Store.{known_synced};
 ghost use Rattle.blocks_group.specs.layout.Group.{check_mark, pack_mark, view_mark};
 ghost use Rattle.blocks_group.specs.rules.Group.{given_mark, refreshed_mark};
 
-#[derive(Drop)]
+#[derive(Clone, Copy)]
 pub enum Mark {
     Absent,
     At(u32),
 }
 
 // What the mark's rule gives, and the mark after it.
-#[derive(Drop)]
+#[derive(Clone, Copy)]
 pub struct CheckedMark {
     pub given: Mark,
     pub mark: Mark,

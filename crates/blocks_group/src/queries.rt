@@ -13,7 +13,7 @@ use block_records::limits::ENTRIES_LIMIT;
 use block_records::place::Place;
 
 // A seqno, or none.
-#[derive(Drop)]
+#[derive(Clone, Copy)]
 pub enum SeqnoOption {
     Absent,
     At(u32),

@@ -18,7 +18,7 @@ use block_records::place::Place;
 use block_records::store_records::{Anchor, BlockCandidate, ReceivedBlock};
 use block_records::top_block::zero_tops;
 
-#[derive(Drop)]
+#[derive(Clone, Copy)]
 pub enum StoreAnswer {
     Stored {
         received_and_collated: bool,
@@ -28,20 +28,20 @@ pub enum StoreAnswer {
     Refused(u32),
 }
 
-#[derive(Drop)]
+#[derive(Clone, Copy)]
 pub struct GroupStore {
     pub answer: StoreAnswer,
     pub group: Group,
 }
 
-#[derive(Drop)]
+#[derive(Clone, Copy)]
 pub struct MasterStore {
     pub answer: StoreAnswer,
     pub masters: MasterGroup,
 }
 
 // What a store answers, and the block that it puts at its seqno, if it changes anything.
-#[derive(Drop)]
+#[derive(Clone, Copy)]
 pub(crate) struct StoreStep {
     pub answer: StoreAnswer,
     pub changed: bool,

@@ -1,4 +1,6 @@
 // RULES.md, Case table: C1 to C14, run on `blocks_cache`. Prints how many cases ran and how many came out wrong.
+#![tactic(auto)]
+
 mod answers;
 mod calls;
 mod cases;

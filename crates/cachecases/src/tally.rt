@@ -1,5 +1,5 @@
 // How many cases ran, and how many were wrong.
-#[derive(Drop)]
+#[derive(Clone, Copy)]
 pub struct Tally {
     pub ran: u64,
     pub bad: u64,

@@ -18,7 +18,7 @@ use blocks_cache::validation::ValidationAnswer;
 use blocks_group::store::StoreAnswer;
 
 // Where the next byte goes, the number of the line that is read, and how often its call is made and timed (0 for once, untimed).
-#[derive(Drop)]
+#[derive(Clone, Copy)]
 pub struct Cursor {
     pub at: usize,
     pub line: u64,

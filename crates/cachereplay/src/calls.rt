@@ -14,13 +14,13 @@ use blocks_cache::cache::{Cache, NewCacheAnswer, empty};
 use blocks_cache::validation::ValidationStatus;
 
 // The cache after a line, and where the next byte goes.
-#[derive(Drop)]
+#[derive(Clone, Copy)]
 pub struct Ran {
     pub cache: Cache,
     pub at: usize,
 }
 
-#[derive(Drop)]
+#[derive(Clone, Copy)]
 struct StatusRead {
     status: ValidationStatus,
     scan: Scan,

@@ -11,14 +11,14 @@ use blocks_cache::cache::Cache;
 use blocks_cache::subgraphs::ArrayExtract;
 
 // The places that can be lent, and how many are.
-#[derive(Drop)]
+#[derive(Clone, Copy)]
 pub struct Lent {
     pub blocks: [BlockCacheEntry; ARRAY_PLACES],
     pub places: usize,
 }
 
 // The cache and the slice after a line, and where the next byte goes.
-#[derive(Drop)]
+#[derive(Clone, Copy)]
 pub struct Extracted {
     pub cache: Cache,
     pub blocks: [BlockCacheEntry; ARRAY_PLACES],

@@ -5,7 +5,7 @@ use crate::output::plus;
 use libc::STDIN_FILENO;
 
 // What was read and not yet taken stands in a buffer between two places.
-#[derive(Drop)]
+#[derive(Clone, Copy)]
 pub struct Reader {
     pub from: usize,
     pub to: usize,

@@ -18,7 +18,7 @@ use blocks_cache::master_data::AppliedRange;
 use blocks_group::group::{Boundary, zero_group};
 use blocks_group::mark::Mark;
 
-#[derive(Drop)]
+#[derive(Clone, Copy)]
 pub struct MarksRead {
     pub mark: Mark,
     pub boundary: Boundary,

@@ -1,4 +1,6 @@
 // Replays a script of calls on the block cache: docs/REPLAY.md.
+#![tactic(auto)]
+
 mod answers;
 mod calls;
 mod commands;

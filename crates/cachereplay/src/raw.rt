@@ -26,7 +26,7 @@ use blocks_group::mark::Mark;
 
 // ===== reading =====
 
-#[derive(Drop)]
+#[derive(Clone, Copy)]
 pub struct ShardOption {
     pub shard: ShardIdent,
     pub scan: Scan,
@@ -218,7 +218,7 @@ pub fn raw_tops(cache: Cache, line: &[u8], start: Scan, out: &mut [u8], cursor: 
 }
 
 // The places of the slice that is lent, and where the next byte goes.
-#[derive(Drop)]
+#[derive(Clone, Copy)]
 pub struct Placed {
     pub blocks: [BlockCacheEntry; ARRAY_PLACES],
     pub at: usize,

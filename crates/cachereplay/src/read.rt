@@ -11,75 +11,75 @@ use blocks_cache::master_data::AppliedRange;
 use blocks_group::group::Boundary;
 use blocks_group::mark::Mark;
 
-#[derive(Drop)]
+#[derive(Clone, Copy)]
 pub struct SeqnoRead {
     pub value: u32,
     pub scan: Scan,
 }
 
-#[derive(Drop)]
+#[derive(Clone, Copy)]
 pub struct FlagRead {
     pub value: bool,
     pub scan: Scan,
 }
 
-#[derive(Drop)]
+#[derive(Clone, Copy)]
 pub struct ShardRead {
     pub shard: ShardIdent,
     pub scan: Scan,
 }
 
-#[derive(Drop)]
+#[derive(Clone, Copy)]
 pub struct KeyRead {
     pub short: BlockIdShort,
     pub scan: Scan,
 }
 
-#[derive(Drop)]
+#[derive(Clone, Copy)]
 pub struct IdRead {
     pub id: BlockId,
     pub scan: Scan,
 }
 
-#[derive(Drop)]
+#[derive(Clone, Copy)]
 pub struct PrevIdsRead {
     pub prev: PrevIds,
     pub scan: Scan,
 }
 
-#[derive(Drop)]
+#[derive(Clone, Copy)]
 pub struct KeysRead {
     pub keys: Keys,
     pub scan: Scan,
 }
 
-#[derive(Drop)]
+#[derive(Clone, Copy)]
 pub struct TopRead {
     pub top: TopBlock,
     pub scan: Scan,
 }
 
-#[derive(Drop)]
+#[derive(Clone, Copy)]
 pub struct TopsRead {
     pub tops: TopBlocks,
     pub scan: Scan,
 }
 
 // A number of 32 bits that may be absent.
-#[derive(Drop)]
+#[derive(Clone, Copy)]
 pub struct OptionRead {
     pub present: bool,
     pub value: u32,
     pub scan: Scan,
 }
 
-#[derive(Drop)]
+#[derive(Clone, Copy)]
 pub struct RangeRead {
     pub range: AppliedRange,
     pub scan: Scan,
 }
 
-#[derive(Drop)]
+#[derive(Clone, Copy)]
 pub struct BoundaryRead {
     pub boundary: Boundary,
     pub scan: Scan,

@@ -7,39 +7,39 @@ use block_records::entry::{BlockCacheEntry, BlockCacheEntryData, CandidateStatus
 use block_records::store_records::{Anchor, BlockCandidate, PrevIds, ReceivedBlock};
 use block_records::top_block::TopBlocks;
 
-#[derive(Drop)]
+#[derive(Clone, Copy)]
 pub struct CandidateRead {
     pub candidate: BlockCandidate,
     pub scan: Scan,
 }
 
-#[derive(Drop)]
+#[derive(Clone, Copy)]
 pub struct ReceivedRead {
     pub received: ReceivedBlock,
     pub scan: Scan,
 }
 
-#[derive(Drop)]
+#[derive(Clone, Copy)]
 pub struct EntryRead {
     pub entry: BlockCacheEntry,
     pub tops: TopBlocks,
     pub scan: Scan,
 }
 
-#[derive(Drop)]
+#[derive(Clone, Copy)]
 struct StatusRead {
     status: CandidateStatus,
     scan: Scan,
 }
 
-#[derive(Drop)]
+#[derive(Clone, Copy)]
 struct KindRead {
     data: BlockCacheEntryData,
     scan: Scan,
 }
 
 // The two lists of a record, with the anchor after them.
-#[derive(Drop)]
+#[derive(Clone, Copy)]
 struct ListsRead {
     prev: PrevIds,
     tops: TopBlocks,
@@ -48,7 +48,7 @@ struct ListsRead {
 }
 
 // What stands before an entry's lists.
-#[derive(Drop)]
+#[derive(Clone, Copy)]
 struct NamedRead {
     id: BlockId,
     reference: u32,
@@ -56,7 +56,7 @@ struct NamedRead {
 }
 
 // What stands after them.
-#[derive(Drop)]
+#[derive(Clone, Copy)]
 struct RestRead {
     anchor: Anchor,
     payload: u64,

@@ -18,7 +18,7 @@ use blocks_cache::cache::{Cache, empty};
 const NO_GROUP: usize = 9;
 
 // All that a line needs to know beside the cache and the slice.
-#[derive(Drop)]
+#[derive(Clone, Copy)]
 pub struct State {
     // how many places of the slice are lent
     pub places: usize,
@@ -34,7 +34,7 @@ pub struct State {
     pub at: usize,
 }
 
-#[derive(Drop)]
+#[derive(Clone, Copy)]
 pub struct Replay {
     pub cache: Cache,
     pub blocks: [BlockCacheEntry; ARRAY_PLACES],
@@ -45,7 +45,7 @@ pub struct Replay {
 }
 
 // A line's effect where the slice stays.
-#[derive(Drop)]
+#[derive(Clone, Copy)]
 struct Step {
     cache: Cache,
     state: State,

@@ -1,5 +1,7 @@
 // Worked vectors of the order of ids, of questions 2 to 4 and of stored records, run on `block_records`. Prints how many cases ran and how many
 // came out wrong.
+#![tactic(auto)]
+
 mod order;
 mod questions;
 mod stored;

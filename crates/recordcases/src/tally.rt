@@ -3,7 +3,7 @@ use block_records::block_id::{BlockId, zero_id};
 use block_records::store_records::{Anchor, BlockCandidate, ReceivedBlock, zero_prev_ids};
 use block_records::top_block::zero_tops;
 
-#[derive(Drop)]
+#[derive(Clone, Copy)]
 pub struct Tally {
     pub ran: u64,
     pub bad: u64,

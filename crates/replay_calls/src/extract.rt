@@ -11,7 +11,7 @@ use replay_text::values::{Values, low};
 use replay_text::{forms, values};
 
 // The places that can be lent.
-#[derive(Drop)]
+#[derive(Clone, Copy)]
 pub struct Places {
     pub blocks: [BlockCacheEntry; ARRAY_PLACES],
 }

@@ -1,4 +1,6 @@
 // A line of the replay's language made on the cache and the slice that is lent, and its answer printed (docs/REPLAY.md).
+#![tactic(auto)]
+
 pub mod answers;
 pub mod calls;
 pub mod dump;

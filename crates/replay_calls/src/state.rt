@@ -10,7 +10,7 @@ use replay_text::{forms, values};
 // No group yet: a dump's entry has nowhere to go.
 pub const NO_GROUP: usize = 9;
 
-#[derive(Drop)]
+#[derive(Clone, Copy)]
 pub struct State {
     // where the next byte that is printed goes
     pub at: usize,
@@ -31,7 +31,7 @@ pub struct State {
 }
 
 // The cache and the state after a line.
-#[derive(Drop)]
+#[derive(Clone, Copy)]
 pub struct Ran {
     pub cache: Cache,
     pub state: State,

@@ -147,7 +147,7 @@ pub const MADE: usize = 19;
 pub const LOADED: usize = 20;
 
 // A command: its form, the place there after its name, and the line's place after it.
-#[derive(Drop)]
+#[derive(Clone, Copy)]
 pub struct Found {
     pub form: usize,
     pub place: usize,

@@ -5,19 +5,19 @@ use crate::scan::{Scan, expect, read_hash, read_number, read_prefix, read_signed
 use crate::values::low;
 use block_records::block_id::{BlockId, BlockIdShort, ShardIdent, key, key_shard};
 
-#[derive(Drop)]
+#[derive(Clone, Copy)]
 pub struct ShardRead {
     pub shard: ShardIdent,
     pub scan: Scan,
 }
 
-#[derive(Drop)]
+#[derive(Clone, Copy)]
 pub struct KeyRead {
     pub short: BlockIdShort,
     pub scan: Scan,
 }
 
-#[derive(Drop)]
+#[derive(Clone, Copy)]
 pub struct IdRead {
     pub id: BlockId,
     pub scan: Scan,

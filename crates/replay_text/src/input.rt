@@ -4,7 +4,7 @@ ghost use Rattle.io.specs.Counts.{IsPrefixLen};
 use crate::output::plus;
 
 // What was read and not yet taken stands in a buffer between two places.
-#[derive(Drop)]
+#[derive(Clone, Copy)]
 pub struct Reader {
     pub from: usize,
     pub to: usize,
@@ -18,7 +18,7 @@ pub struct Reader {
     pub failed: bool,
 }
 
-#[derive(Drop)]
+#[derive(Clone, Copy)]
 pub struct Got {
     pub bytes: usize,
     pub failed: bool,

@@ -1,4 +1,6 @@
 // The replay's language: the lines that it has, their reading and their printing (docs/REPLAY.md).
+#![tactic(auto)]
+
 pub mod explain;
 pub mod forms;
 pub mod groups;

@@ -14,7 +14,7 @@ use crate::{forms, messages, values};
 pub const MASTERS: u64 = 8;
 
 // A line that was read: its command, BAD where it is none or lacks something, NOTHING where it is skipped.
-#[derive(Drop)]
+#[derive(Clone, Copy)]
 pub struct Line {
     pub form: usize,
     pub values: Values,

@@ -5,7 +5,7 @@ ghost use Rattle.replay_text.specs.Bytes.{ends_word, has};
 use crate::output::{minus, plus};
 
 // Where the reading stands, and what was expected there and isn't (0 while all is well): the texts are in `messages`.
-#[derive(Drop)]
+#[derive(Clone, Copy)]
 pub struct Scan {
     pub at: usize,
     pub missing: u8,
@@ -13,26 +13,26 @@ pub struct Scan {
     pub text: usize,
 }
 
-#[derive(Drop)]
+#[derive(Clone, Copy)]
 pub struct NumberRead {
     pub value: u64,
     pub scan: Scan,
 }
 
-#[derive(Drop)]
+#[derive(Clone, Copy)]
 pub struct SignedRead {
     pub value: i32,
     pub scan: Scan,
 }
 
-#[derive(Drop)]
+#[derive(Clone, Copy)]
 pub struct HashRead {
     pub hash: [u8; 32],
     pub scan: Scan,
 }
 
 // A digit at the end of a number.
-#[derive(Drop)]
+#[derive(Clone, Copy)]
 struct Appended {
     value: u64,
     fits: bool,

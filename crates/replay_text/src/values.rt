@@ -64,7 +64,7 @@ pub const ADDITIONAL: usize = 35;
 // In the place of a number of 32 bits: there is none. Of a key or an id: it is absent where its place has this.
 pub const ABSENT: u64 = u64::MAX;
 
-#[derive(Drop)]
+#[derive(Clone, Copy)]
 pub struct Values {
     pub scan: Scan,
     pub numbers: [u64; SLOTS],

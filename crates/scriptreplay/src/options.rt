@@ -2,7 +2,7 @@
 use libc::{STDIN_FILENO, STDOUT_FILENO};
 
 // Where the script is read from; `runs` is false where there is nothing to read.
-#[derive(Drop)]
+#[derive(Clone, Copy)]
 pub struct Source {
     pub fd: i32,
     pub runs: bool,

@@ -15,7 +15,7 @@ use replay_text::records::candidate_of;
 use replay_text::scan::{fail, start_at};
 use replay_text::{forms, messages};
 
-#[derive(Drop)]
+#[derive(Clone, Copy)]
 pub struct Run {
     pub state: State,
     pub reader: Reader,
@@ -26,7 +26,7 @@ fn goes_on(state: State, reader: Reader) -> bool {
 }
 
 // A line that was read, and the state and the reader before it is made.
-#[derive(Drop)]
+#[derive(Clone, Copy)]
 struct Next {
     read: Line,
     state: State,
