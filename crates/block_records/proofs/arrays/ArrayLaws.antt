@@ -10,7 +10,7 @@ use native.Mathlib.Omega.{arith}
 use borrow.Author.Tests.{ltb-false, ltb-true}
 use lib.Dec.{ltb}
 use lib.ListN.{get_or-append, drop, get_or, length, length-append, length-drop, length-replicate, replicate, set, take}
-use lib.Seq.{get_or-append-add, get_or_at, get_or-drop, get_or-take, length_take_le, take_all, take_at}
+use lib.Seq.{get_or-append-add, get_or_at, get_or-drop, get_or-take, length-take-le, take_all, take_at}
 use Rattle.block_records.proofs.arrays.LoopLaws.{padded_nil, set_padded, take_more}
 use Rattle.block_records.proofs.rules.ListLaws.{length_each}
 use Rattle.block_records.proofs.rules.Tests.{and_left, and_right, on}
@@ -46,7 +46,7 @@ module _ {A : Type 0} where
   pub length_within : (size n : ℕ) (xs : List A) → length xs ≡ size → length (take n xs) ≡ pick (ltb n size) n size
   length_within size n xs l =
       on (ltb n size)
-      (λ t. rw t (let m = ltb-true n size t in length_take_le n xs (omega arith)))
+      (λ t. rw t (let m = ltb-true n size t in length-take-le n xs (omega arith)))
       (λ t. rw t (let m = ltb-false n size t in ap length (take_all n xs (omega arith)) ∙ l))
 
   -- the first n elements are no more than n ..
@@ -104,7 +104,7 @@ module _ {A : Type 0} where
   pub fill_next : (n : ℕ) (z : A) (t out : List A) (i : ℕ) (v d : A) → out ≡ padded n z (take i t) → v ≡ get_or t i d → i < length t → length t ≤ n →
       set out i v ≡ padded n z (take (i + 1) t)
   fill_next n z t out i v d o e h l =
-      rw (o, e, take_more t i d h) (set_padded n z (take i t) i (get_or t i d) (length_take_le i t (omega arith)) (omega arith))
+      rw (o, e, take_more t i d h) (set_padded n z (take i t) i (get_or t i d) (length-take-le i t (omega arith)) (omega arith))
 
   -- the loop ends
   pub fill_end : (n : ℕ) (z : A) (t out : List A) (i : ℕ) → out ≡ padded n z (take i t) → length t ≤ i → out ≡ padded n z t
@@ -121,7 +121,7 @@ module _ {A : Type 0} (n : ℕ) (z : A) (l : List A) (len : length l ≡ n) (out
   pub copy_count : (count : ℕ) → i ≤ n → i ≤ count → count ≤ i → (out ≡ padded n z (take count l)) × (i ≡ length (take count l))
   copy_count count h k m =
       let q : i ≡ count = omega arith in
-      (e ∙ ap (λ (j : ℕ). padded n z (take j l)) q, q ∙ sym (length_take_le count l (omega arith)))
+      (e ∙ ap (λ (j : ℕ). padded n z (take j l)) q, q ∙ sym (length-take-le count l (omega arith)))
 
   -- up to the end
   pub copy_end : (count : ℕ) → n ≤ i → i ≤ count → (out ≡ padded n z (take count l)) × (n ≡ length (take count l))
@@ -139,7 +139,7 @@ module _ {A B : Type 0} where
 
   -- as many images as elements taken
   pub length_each_take : (f : A → B) (k : ℕ) (xs : List A) → k ≤ length xs → length (each f (take k xs)) ≡ k
-  length_each_take f k xs l = length_each f (take k xs) ∙ length_take_le k xs l
+  length_each_take f k xs l = length_each f (take k xs) ∙ length-take-le k xs l
 
   -- ===== a loop that fills an array with f of the first k elements of xs, at place i =====
 
@@ -159,20 +159,20 @@ module _ {A B : Type 0} where
 module _ {A : Type 0} (at from : ℕ) (a : A) (xs : List A) (p : at ≤ from) (q : from ≤ length xs) where
   -- how many they are then
   pub length_spliced : length (spliced at from a xs) ≡ at + 1 + (length xs - from)
-  length_spliced = simp (length-append, length-drop, length_take_le at xs (omega arith)) (omega arith)
+  length_spliced = simp (length-append, length-drop, length-take-le at xs (omega arith)) (omega arith)
 
   -- what stands before the place, at it, and after it
   spliced_before : (j : ℕ) (d : A) → j < at → get_or (spliced at from a xs) j d ≡ get_or xs j d
   spliced_before j d h =
-      let l = length_take_le at xs (omega arith) in
+      let l = length-take-le at xs (omega arith) in
       get_or-append (take at xs) (a ∷ drop from xs) d j (omega arith) ∙ get_or-take at xs j d h
 
   spliced_here : (d : A) → get_or (spliced at from a xs) at d ≡ a
-  spliced_here d = get_or_at (take at xs) a (drop from xs) d at (length_take_le at xs (omega arith))
+  spliced_here d = get_or_at (take at xs) a (drop from xs) d at (length-take-le at xs (omega arith))
 
   spliced_after : (j : ℕ) (d : A) → at < j → get_or (spliced at from a xs) j d ≡ get_or xs (from + (j - at - 1)) d
   spliced_after j d h =
-      let l : length (take at xs) ≡ at = length_take_le at xs (omega arith) in
+      let l : length (take at xs) ≡ at = length-take-le at xs (omega arith) in
       let e : j ≡ length (take at xs) + suc (j - at - 1) = omega arith in
       ap (λ (i : ℕ). get_or (spliced at from a xs) i d) e ∙ get_or-append-add (take at xs) (a ∷ drop from xs) (suc (j - at - 1)) d ∙ get_or-drop from xs (j - at - 1) d
 
@@ -186,7 +186,7 @@ pub record Splicing {A : Type 0} (size : ℕ) (z : A) (at from : ℕ) (a : A) (l
 
 module _ {A : Type 0} (size : ℕ) (z : A) (at from : ℕ) (a : A) (l : List A) (k n j : ℕ) (out : List A) (s : Splicing size z at from a l k n j out) (long : length l ≡ size) where
   listed : length (take k l) ≡ k
-  listed = length_take_le k l (omega (arith, s.few))
+  listed = length-take-le k l (omega (arith, s.few))
 
   within : from ≤ length (take k l)
   within = omega (arith, listed, s.split.within)

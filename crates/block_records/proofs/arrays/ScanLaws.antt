@@ -10,8 +10,8 @@ use native.Mathlib.Numerals.{add-one}
 use native.Mathlib.Omega.{arith}
 use borrow.Author.Tests.{le-ltb, ltb-false, ltb-true}
 use lib.Dec.{ltb}
-use lib.ListN.{drop, drop_of_length-le, get_or, length, length-append, length-set, replicate, set, take, take_append_drop}
-use lib.Seq.{drop-append-add, drop-append-le, drop-cons, get_or-take, length_take_le, set_at, set-set, set_split, take-nil, take-set-le, take-take}
+use lib.ListN.{drop, drop_of_length-le, get_or, length, length-append, length-set, replicate, set, take, take-append-drop}
+use lib.Seq.{drop-append-add, drop-append-le, drop-cons, get_or-take, length-take-le, set_at, set-set, set_split, take-nil, take-set-le, take-take}
 use Rattle.block_records.proofs.arrays.ArrayLaws.{length_spliced, length_within}
 use Rattle.block_records.proofs.arrays.LoopLaws.{left, left_more, left_over, left_passed, padded_nil, set_padded, take_more}
 use Rattle.block_records.proofs.rules.ListLaws.{Order, every_weaken}
@@ -182,16 +182,16 @@ module _ {A : Type 0} (a : A) (xs : List A) (count : ℕ) (room : count < length
   -- before the first turn
   pub open_start : Opened a xs count count xs
   open_start =
-      let l : length (take count xs) ≤ count = omega (arith, length_take_le count xs (omega arith)) in
+      let l : length (take count xs) ≤ count = omega (arith, length-take-le count xs (omega arith)) in
       record { long = refl; below = refl; opened = rw (set_split xs count a room, drop_of_length-le (take count xs) {i = count} l, add-one count) }
 
   module _ (j : ℕ) (out : List A) (o : Opened a xs count j out) where
     -- one element moves
     pub open_next : (d : A) → 0 < j → j ≤ count → Opened a xs count (j - 1) (set out j (get_or out (j - 1) d))
     open_next d p h =
-        let m : length (take j xs) ≡ j = length_take_le j xs (omega arith) in
-        let n : length (take (j - 1) xs) ≡ j - 1 = length_take_le (j - 1) xs (omega arith) in
-        let k : length (take count xs) ≡ count = length_take_le count xs (omega arith) in
+        let m : length (take j xs) ≡ j = length-take-le j xs (omega arith) in
+        let n : length (take (j - 1) xs) ≡ j - 1 = length-take-le (j - 1) xs (omega arith) in
+        let k : length (take count xs) ≡ count = length-take-le count xs (omega arith) in
         let i : j ≡ j - 1 + 1 = omega arith in
         let i' : j ≡ suc (j - 1) = omega arith in
         let v : get_or out (j - 1) d ≡ get_or xs (j - 1) d =
@@ -216,20 +216,20 @@ module _ {A : Type 0} (a : A) (xs : List A) (count : ℕ) (room : count < length
     -- then the element is put at its place
     pub open_end : j ≤ count → set out j a ≡ overwritten (spliced j j a (take count xs)) xs
     open_end h =
-        let k : length (take count xs) ≡ count = length_take_le count xs (omega arith) in
+        let k : length (take count xs) ≡ count = length-take-le count xs (omega arith) in
         let l : length (spliced j j a (take count xs)) ≡ count + 1 = length_spliced j j a (take count xs) (omega arith) (omega arith) ∙ omega arith in
         o.opened ∙ rw (l, append_assoc, take-take j count xs h)
 
   -- how many there are then
   pub inserted_length : (j : ℕ) → j ≤ count → count + 1 ≡ length (spliced j j a (take count xs))
   inserted_length j h =
-      let k : length (take count xs) ≡ count = length_take_le count xs (omega arith) in
+      let k : length (take count xs) ≡ count = length-take-le count xs (omega arith) in
       omega (arith, length_spliced j j a (take count xs) (omega arith) (omega arith))
 
 -- one that is replaced where it stands
 module _ {A : Type 0} (a : A) (xs : List A) (count : ℕ) (few : count ≤ length xs) (k : ℕ) (h : k < count) where
   listed : length (take count xs) ≡ count
-  listed = length_take_le count xs few
+  listed = length-take-le count xs few
 
   -- as many as before
   pub replaced_length : count ≡ length (spliced k (k + 1) a (take count xs))
@@ -240,7 +240,7 @@ module _ {A : Type 0} (a : A) (xs : List A) (count : ℕ) (few : count ≤ lengt
   set_replaces =
       let l = listed in
       let e : drop (k + 1) (take count xs) ++ drop count xs ≡ drop (k + 1) xs =
-      sym (drop-append-le (k + 1) (take count xs) (drop count xs) (omega arith)) ∙ ap (drop (k + 1)) (take_append_drop count xs) in
+      sym (drop-append-le (k + 1) (take count xs) (drop count xs) (omega arith)) ∙ ap (drop (k + 1)) (take-append-drop count xs) in
       rw (← replaced_length, append_assoc, e, take-take k count xs (omega arith), add-one k) (set_split xs k a (omega arith))
 
 -- ===== over an array with zeros after its list =====

@@ -1,6 +1,6 @@
 -- What extraction does to the arrays: one turn of its small loops, and the first place of those that pass.
 -- Assumes nothing.
-use Rattle.std.proofs.Common.{◌≡◌, ℕ, zero, suc, ◌+◌, ◌-◌, ◌<◌, ◌≤◌, Bool, true, false, List, [], ◌∷◌, ◌++◌, length, get_or, take, drop, set, replicate, sym, refl, ap, ◌∙◌, subst, append_assoc, append-nil, le_of_suc-le-suc, arith, length-append, length-drop, drop_of_length-le, length-take, length_take_le, take_all, drop-cons, get_or-take}
+use Rattle.std.proofs.Common.{◌≡◌, ℕ, zero, suc, ◌+◌, ◌-◌, ◌<◌, ◌≤◌, Bool, true, false, List, [], ◌∷◌, ◌++◌, length, get_or, take, drop, set, replicate, sym, refl, ap, ◌∙◌, subst, append_assoc, append-nil, le_of_suc-le-suc, arith, length-append, length-drop, drop_of_length-le, length-take, length-take-le, take_all, drop-cons, get_or-take}
 use native.Mathlib.Nat.{suc_inj}
 use lib.Seq.{get_or_at, set_at}
 use Rattle.block_records.specs.declared.block_id.BlockId.{BlockId}
@@ -125,13 +125,13 @@ module _ {A : Type 0} where
   -- what stands at the place is still the list's
   pub in_place_read : (l t out : List A) (i : ℕ) (d : A) → out ≡ take i t ++ drop i l → i < length t → length t ≡ length l → get_or out i d ≡ get_or l i d
   in_place_read l t out i d o h m =
-      let a : length (take i t) ≡ i = length_take_le i t (omega arith) in
+      let a : length (take i t) ≡ i = length-take-le i t (omega arith) in
       rw (o, drop_next l i d (omega arith)) (get_or_at (take i t) (get_or l i d) (drop (i + 1) l) d i a)
 
   pub in_place_next : (l t out : List A) (i : ℕ) (v d : A) → out ≡ take i t ++ drop i l → v ≡ get_or t i d → i < length t → length t ≡ length l →
       set out i v ≡ take (i + 1) t ++ drop (i + 1) l
   in_place_next l t out i v d o e h m =
-      let a : length (take i t) ≡ i = length_take_le i t (omega arith) in
+      let a : length (take i t) ≡ i = length-take-le i t (omega arith) in
       rw (o, e, take_more t i d h, append_assoc, drop_next l i d (omega arith)) (set_at (take i t) (get_or l i d) (drop (i + 1) l) (get_or t i d) i a)
 
   pub in_place_end : (l t out : List A) (i : ℕ) → out ≡ take i t ++ drop i l → length t ≤ i → length t ≡ length l → out ≡ t
@@ -187,7 +187,7 @@ module _ {A : Type 0} where
   pub back_next : (size : ℕ) (z : A) (l out : List A) (n j : ℕ) (d : A) → out ≡ padded size z (backwards (drop (n - j) (take n l))) → j < n → n ≤ size → n ≤ length l →
       set out j (get_or l (n - 1 - j) d) ≡ padded size z (backwards (drop (n - (j + 1)) (take n l)))
   back_next size z l out n j d e h k m =
-      let t : length (take n l) ≡ n = length_take_le n l m in
+      let t : length (take n l) ≡ n = length-take-le n l m in
       let i : n - 1 - j < length (take n l) = omega arith in
       let p : n - (j + 1) ≡ n - 1 - j = omega arith in
       let q : suc (n - 1 - j) ≡ n - j = omega arith in

@@ -1,6 +1,6 @@
 -- The loop of extraction, turn by turn, is the rule's: after `head` ids taken its arrays hold what the rule has made of so many ids.
 -- Assumes nothing.
-use Rattle.std.proofs.Common.{◌≡◌, ℕ, zero, suc, ◌+◌, ◌-◌, ◌*◌, ◌<◌, ◌≤◌, true, false, eqb, List, [], ◌∷◌, ◌++◌, length, get_or, take, drop, set, replicate, sym, refl, ap, ◌∙◌, subst, subst₂, append_assoc, le_refl, arith, length-append, length-set, take_append_drop, drop_of_length-le, length_take_le, get_or-take, eq-eqb, ne_eqb}
+use Rattle.std.proofs.Common.{◌≡◌, ℕ, zero, suc, ◌+◌, ◌-◌, ◌*◌, ◌<◌, ◌≤◌, true, false, eqb, List, [], ◌∷◌, ◌++◌, length, get_or, take, drop, set, replicate, sym, refl, ap, ◌∙◌, subst, subst₂, append_assoc, le_refl, arith, length-append, length-set, take-append-drop, drop_of_length-le, length-take-le, get_or-take, eq-eqb, ne_eqb}
 use mathlib.Core.Option.{Option, none, some}
 use lib.Seq.{drop-append-le, set_at, take-append-add}
 use Rattle.block_records.specs.declared.block_id.BlockId.{BlockId}
@@ -67,11 +67,11 @@ two_taken x y z (p ∷ q ∷ u ∷ us) r e h = absurd (omega arith)
 pub written_pair : {A : Type 0} (l : List A) (n : ℕ) (x y : A) → n + 2 ≤ length l → set (set l n x) (n + 1) y ≡ take n l ++ (x ∷ y ∷ drop (n + 2) l)
 written_pair {A = A} l n x y h =
     let p : List A = take n l in
-    let k : length p ≡ n = length_take_le n l (omega arith) in
+    let k : length p ≡ n = length-take-le n l (omega arith) in
     let e : drop n l ≡ get_or l n x ∷ get_or l (n + 1) x ∷ drop (n + 2) l =
     let q : n + 1 + 1 ≡ n + 2 = omega arith in
     drop_next l n x (omega arith) ∙ ap (λ (s : List A). get_or l n x ∷ s) (drop_next l (n + 1) x (omega arith) ∙ ap (λ (j : ℕ). get_or l (n + 1) x ∷ drop j l) q) in
-    let w : l ≡ p ++ (get_or l n x ∷ get_or l (n + 1) x ∷ drop (n + 2) l) = sym (take_append_drop n l) ∙ ap (λ (s : List A). p ++ s) e in
+    let w : l ≡ p ++ (get_or l n x ∷ get_or l (n + 1) x ∷ drop (n + 2) l) = sym (take-append-drop n l) ∙ ap (λ (s : List A). p ++ s) e in
     let a : set l n x ≡ (p ++ (x ∷ [])) ++ (get_or l (n + 1) x ∷ drop (n + 2) l) =
     ap (λ (s : List A). set s n x) w ∙ set_at p (get_or l n x) (get_or l (n + 1) x ∷ drop (n + 2) l) x n k ∙ sym (append_assoc p (x ∷ []) (get_or l (n + 1) x ∷ drop (n + 2) l)) in
     ap (λ (s : List A). set s (n + 1) y) a
@@ -85,7 +85,7 @@ queued l n head ps d h k two =
     let x = get_or (padded 2 zero_id ps) 0 d in
     let y = get_or (padded 2 zero_id ps) 1 d in
     let p : List BlockId = take n l in
-    let e : length p ≡ n = length_take_le n l (omega arith) in
+    let e : length p ≡ n = length-take-le n l (omega arith) in
     let f : n + length ps ≡ length p + length ps = omega arith in
     let t = two_taken x y zero_id ps (drop (n + 2) l) (two_places (padded 2 zero_id ps) d d (length_padded 2 zero_id ps two)) two in
     ap (λ (s : List BlockId). drop head (take (n + length ps) s)) (written_pair l n x y h)
@@ -192,7 +192,7 @@ module _ (c : Cache) (ok : sound_cache c ≡ true) (b : MasterBlock) (few : leng
 
       next_waits : w.waiting ≡ id ∷ rest
       next_waits =
-          let l : length (take count ids) ≡ count = length_take_le count ids (omega (arith, run_places, r.places)) in
+          let l : length (take count ids) ≡ count = length-take-le count ids (omega (arith, run_places, r.places)) in
           sym r.waits ∙ drop_next (take count ids) head d (omega arith) ∙ ap (λ (x : BlockId). x ∷ rest) (get_or-take count ids head d h)
 
       next_turns : (o : Option Entry) → block_under w.shards (key id) ≡ o → take_found mc_seqno id rest w o ≡ take_times (head + 1) mc_seqno (first_of c b)
@@ -405,7 +405,7 @@ module _ (c : Cache) (ok : sound_cache c ≡ true) (b : MasterBlock) (few : leng
 
     nothing_waits : count ≤ head → w.waiting ≡ []
     nothing_waits h =
-        sym r.waits ∙ drop_of_length-le (take count ids) {i = head} (omega (arith, length_take_le count ids (omega (arith, run_places, r.places))))
+        sym r.waits ∙ drop_of_length-le (take count ids) {i = head} (omega (arith, length-take-le count ids (omega (arith, run_places, r.places))))
 
     pub run_ends : count ≤ head → (left : List ShardGroup) (subgraph : List BlockCacheEntry) → left ≡ compact_shards c.shards seqnos → subgraph ≡ padded 128 zero_entry (backwards (take joined blocks)) →
         ◌≡◌ {A = Extraction} (record { shards = left; blocks = subgraph; joined = joined; taken = head }) (pack_extraction (extraction_of (view_master b) (view c)))

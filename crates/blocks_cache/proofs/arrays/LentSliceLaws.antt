@@ -1,11 +1,11 @@
 -- A list that is written over from a place on, one element after the other.
 -- Assumes nothing.
-use Rattle.std.proofs.Common.{◌≡◌, ℕ, zero, suc, ◌+◌, ◌<◌, ◌≤◌, List, [], ◌∷◌, ◌++◌, length, get_or, take, drop, set, sym, refl, ap, ◌∙◌, le_of_suc-le-suc, not-suc-le-zero, suc-add, zero-add, suc-ne-zero, add-one, arith, take_append_drop}
+use Rattle.std.proofs.Common.{◌≡◌, ℕ, zero, suc, ◌+◌, ◌<◌, ◌≤◌, List, [], ◌∷◌, ◌++◌, length, get_or, take, drop, set, sym, refl, ap, ◌∙◌, le_of_suc-le-suc, not-suc-le-zero, suc-add, zero-add, suc-ne-zero, add-one, arith, take-append-drop}
 use Rattle.blocks_cache.specs.arrays.LentSlices.{filled_at}
 
 module _ {A : Type 0} where
   pub filled_none : (at : ℕ) (bs ys : List A) → filled_at at 0 bs ys ≡ ys
-  filled_none at bs ys = take_append_drop at ys
+  filled_none at bs ys = take-append-drop at ys
 
   from_front_length : (n : ℕ) (bs ys : List A) → n ≤ length bs → n ≤ length ys → length (take n bs ++ drop n ys) ≡ length ys
   from_front_length zero bs ys l m = refl

@@ -1,6 +1,6 @@
 -- The array of shard groups: what is listed, and a group put at its place; on packed groups each function of the array is the rule, packed.
 -- Assumes nothing.
-use Rattle.std.proofs.Common.{◌≡◌, ℕ, ◌+◌, ◌<◌, ◌≤◌, true, false, not, List, length, take, set, sym, refl, ap, ◌∙◌, arith, length_take_le, ltb-false, ltb-true, le-ltb, lt-ltb, le-leb}
+use Rattle.std.proofs.Common.{◌≡◌, ℕ, ◌+◌, ◌<◌, ◌≤◌, true, false, not, List, length, take, set, sym, refl, ap, ◌∙◌, arith, length-take-le, ltb-false, ltb-true, le-ltb, lt-ltb, le-leb}
 use Rattle.block_records.specs.declared.block_id.ShardIdent.{ShardIdent}
 use Rattle.block_records.specs.declared.place.Place.{Place}
 use Rattle.block_records.specs.declared.place.Place.TheVariants.{At as place_at, Vacant as vacant_at}
@@ -56,7 +56,7 @@ module _ (gs : List ShardGroup) (long : length gs ≡ 8) (n : ℕ) (g : ShardGro
   shard_listed e = omega (arith, at_listed e, few)
 
   pub shard_vacant : shard_place g.shard n gs ≡ vacant_at k → n < 8 → k ≤ n
-  shard_vacant e h = omega (arith, vacant_listed e, length_take_le n gs (omega arith))
+  shard_vacant e h = omega (arith, vacant_listed e, length-take-le n gs (omega arith))
 
   pub put_shard_replaces : shard_place g.shard n gs ≡ place_at k → (c : ℕ) → c ≡ listed_count n 8 → record { groups = set gs k g; count = c } ≡ put_shard g n gs
   put_shard_replaces e c q =

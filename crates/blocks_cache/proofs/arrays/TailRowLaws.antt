@@ -1,6 +1,6 @@
 -- Tail rows and the ids that wait, in their arrays: what the steps of the code make of them.
 -- Assumes nothing.
-use Rattle.std.proofs.Common.{◌≡◌, ℕ, zero, suc, ◌+◌, ◌-◌, ◌<◌, ◌≤◌, Bool, true, false, not, ◌&&◌, ◌||◌, eqb, ltb, leb, ◌≢◌, List, [], ◌∷◌, ◌++◌, length, get_or, take, sym, refl, ap, ◌∙◌, ap₂, arith, length_take_le, ltb-false, ltb-true, le-ltb, lt-ltb, eq-eqb, ne_eqb, le-leb}
+use Rattle.std.proofs.Common.{◌≡◌, ℕ, zero, suc, ◌+◌, ◌-◌, ◌<◌, ◌≤◌, Bool, true, false, not, ◌&&◌, ◌||◌, eqb, ltb, leb, ◌≢◌, List, [], ◌∷◌, ◌++◌, length, get_or, take, sym, refl, ap, ◌∙◌, ap₂, arith, length-take-le, ltb-false, ltb-true, le-ltb, lt-ltb, eq-eqb, ne_eqb, le-leb}
 use mathlib.Core.Option.{Option, none, some}
 use borrow.Author.Tests.{lt-leb}
 use lib.Seq.{take-nil}
@@ -173,7 +173,7 @@ module _ (ids : List BlockId) (long : length ids ≡ 258) (count : ℕ) (prev : 
   pub fresh_fits : count ≤ 256 - fresh.count → fresh ≡ pack_prev_ids (fresh_ids (take count ids) (listed_prev_ids prev))
   unfolding fresh_ids
   fresh_fits h =
-      let l : length (take count ids) ≡ count = length_take_le count ids (omega arith) in
+      let l : length (take count ids) ≡ count = length-take-le count ids (omega arith) in
       let few = fresh_few in
       let t = le-leb (length (take count ids) + length unknown) 256 (omega (arith, l, few, fresh_count)) in
       fresh_unknown ∙ ap pack_prev_ids (picked (leb (length (take count ids) + length unknown) 256) unknown [] t)
@@ -244,7 +244,7 @@ module _ (ids : List BlockId) (long : length ids ≡ 258) (count : ℕ) (prints 
       ∙ new_ids (take count ids) p q prev.count (unknown_by p first has_first is_first tells_first (or_left has_first has_second h₂))
       (unknown_by q second has_second is_second tells_second (or_right has_first has_second h₂)) other
       ∙ sym ps in
-      let l : length (take count ids) ≡ count = length_take_le count ids (omega arith) in
+      let l : length (take count ids) ≡ count = length-take-le count ids (omega arith) in
       let n : length (listed_prev_ids prev) ≤ 2 = omega (arith, two, length_take_few prev.count prev.ids) in
       let t = le-leb (length (take count ids) + length (unknown_ids (take count ids) (listed_prev_ids prev))) 256 (omega (arith, l, n, ap length new)) in
       er ∙ ap pack_prev_ids (sym new ∙ picked (leb (length (take count ids) + length (unknown_ids (take count ids) (listed_prev_ids prev))) 256) (unknown_ids (take count ids) (listed_prev_ids prev)) [] t)

@@ -3,7 +3,7 @@
 --     lender_meets     the function (`LentArrayWalk`'s `lender`) meets its contract where the callee and `lent_places` meet theirs
 -- Assumes `Logic`.
 use Rattle.std.proofs.Common.{◌≡◌, ℕ, ◌^◌, ◌<◌, ◌≤◌, min, T, List, [], ◌∷◌, take, drop as drop_list, refl, lt_of_le_of_lt, lit<, w64, MutBor}
-use native.Mathlib.Nat.{min_le_right}
+use native.Mathlib.Nat.{min-le_right}
 use seplogic.Ra.Ura.{Ura}
 use seplogic.Ra.TreeShare.{full_share}
 use mir.Syntax.{Name, Ty, Fn, ty_array}
@@ -141,7 +141,7 @@ module _ (Q : RattleType) (asks : Q.Denot → Request) where
         m = min k N
 
         few : m ≤ N
-        few = min_le_right k N
+        few = min-le_right k N
 
         abbrev x : Cache × (Q.Denot × (List BlockCacheEntry × (ℕ × Unit {0})))
         x = (c, (a, (bs, (k, tt))))

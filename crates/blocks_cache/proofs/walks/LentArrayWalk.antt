@@ -5,7 +5,7 @@
 --     places_run   `lent_places` runs
 --     lender       the function, over any types.        walks: its walk, at any behaviour of the callees
 -- Assumes `Logic`.
-use Rattle.std.proofs.Common.{◌≡◌, ℕ, ◌^◌, ◌<◌, ◌≤◌, min, T, List, [], ◌∷◌, ◌++◌, length, take, drop as drop_list, sym, refl, ap, ◌∙◌, subst, lt_of_le_of_lt, mul-le-mul_right, take_append_drop, length_take_le, take_at, drop_at, w64, MutBor}
+use Rattle.std.proofs.Common.{◌≡◌, ℕ, ◌^◌, ◌<◌, ◌≤◌, min, T, List, [], ◌∷◌, ◌++◌, length, take, drop as drop_list, sym, refl, ap, ◌∙◌, subst, lt_of_le_of_lt, mul-le-mul_right, take-append-drop, length-take-le, take_at, drop_at, w64, MutBor}
 use lib.Seq.{length_front}
 use seplogic.Ra.Ura.{Ura}
 use seplogic.Ra.TreeShare.{full_share}
@@ -72,7 +72,7 @@ module _ {M : Type 1} {𝓤 : Ura M} (𝓛 : Logic 𝓤) (R : RattleType) (one :
 
   lends_first : (ℓ : Lifetime) (κ : Lft) (xs : List R.Denot) → Room R n → length (take m xs) ≡ m → ent 𝓤 (sem 𝓛 (cells (mem R) xs l 0)) (mean 𝓛 (later (some (λ (γ : GName). Out ℓ κ xs γ))))
   lends_first ℓ κ xs room e =
-      qed 𝓛 (‵ (cells (mem R) xs l 0) ∷ []) ∵ updating ! $ rewrite ! 0 (λ (ys : List R.Denot). ‵ (cells (mem R) ys l 0)) (sym (take_append_drop m xs)) refl $
+      qed 𝓛 (‵ (cells (mem R) xs l 0) ∷ []) ∵ updating ! $ rewrite ! 0 (λ (ys : List R.Denot). ‵ (cells (mem R) ys l 0)) (sym (take-append-drop m xs)) refl $
       use1 𝓛 (‵ (cells (mem R) (take m xs) l 0) ⊛ ‵ (cells (mem R) (drop_list m xs) l (at 0 (mem R).size (length (take m xs))))) (cut_app 𝓛 (mem R) (take m xs) (drop_list m xs) l 0) $ split ! $
       use1 𝓛 (later (some (λ (γ : GName). ‵ ((MutSlice ℓ κ R).own_val (record { ref_ptr = (l, 0); ghost_name = γ; now = take m xs }) (slice_val (l, 0) (length (take m xs)) ∷ [])) ⊛ ‵ (flent κ (Held R (length (take m xs)) l 0 γ)))))
       (lends_slice 𝓛 R ℓ κ (take m xs) l 0 (subst (Room R) (sym e) (fewer_room R m n few room))) $ await ! tt $ pick ! (λ γ. split ! $
@@ -86,7 +86,7 @@ module _ {M : Type 1} {𝓤 : Ura M} (𝓛 : Logic 𝓤) (R : RattleType) (one :
       qed 𝓛 (‵ (fat full_share arr l 0 v) ∷ []) ∵ use1 𝓛 (‵ (cell_at full_share (Array R n).mir (v ∷ []) l 0)) (𝓛.laws.at_raw full_share arr l 0 v) $
       owned ! (Array R n) (Is (Array R n)) (Array-Makes 𝓛 R mk n) xs (v ∷ []) is $ move ! (1 ∷ 0 ∷ []) $ fjoin ! $ fpack ! (List Val) (λ us. fsep (cell_at full_share (Array R n).mir us l 0) ((Array R n).own_val xs us)) (v ∷ []) $
       use1 𝓛 (‵ ((arr_parts (shares R) n).part full_share xs l 0)) (Array-apart 𝓛 R full_share one n xs l 0) $ fsplit ! $ drop ! $ use1 𝓛 (‵ (cells (mem R) xs l 0)) (whole_in 𝓛 R xs l 0) $
-      by ! (lends_first ℓ κ xs room (length_take_le m xs (subst (λ (k : ℕ). m ≤ k) (sym e) few)))
+      by ! (lends_first ℓ κ xs room (length-take-le m xs (subst (λ (k : ℕ). m ≤ k) (sym e) few)))
 
   -- the memory of ws is the local's again
   laid_down : (ws : List R.Denot) (val : List R.Denot → Val) → Tells (Array R n) (Is (Array R n)) (λ us. val us ∷ []) → length ws ≡ n
@@ -106,7 +106,7 @@ module _ {M : Type 1} {𝓤 : Ura M} (𝓛 : Logic 𝓤) (R : RattleType) (one :
       use3 𝓛 (later (‵ ((Arr (mem R) m).own_at zs l 0))) (slice_back 𝓛 R κ γ zs m l 0) $ await ! tt $ fsplit ! $ feq_l ! (λ e.
       rewrite ! 1 (λ (k : ℕ). ‵ (cells (mem R) (drop_list m xs) l (at 0 (mem R).size k))) (sym e) refl $ use2 𝓛 (‵ (cells (mem R) (zs ++ drop_list m xs) l 0)) (join_app 𝓛 (mem R) zs (drop_list m xs) l 0) $
       use1 𝓛 (given (Is (Array R n) (zs ++ drop_list m xs) (val (zs ++ drop_list m xs) ∷ [])) (‵ (fat full_share arr l 0 (val (zs ++ drop_list m xs)))))
-      (laid_down (zs ++ drop_list m xs) val tl (length_front xs zs m (e ∙ sym (length_take_le m xs (subst (λ (k : ℕ). m ≤ k) (sym len) few))) ∙ len)) $ learn ! (λ is. at_once ! $ check ! (e, is) $ done !))
+      (laid_down (zs ++ drop_list m xs) val tl (length_front xs zs m (e ∙ sym (length-take-le m xs (subst (λ (k : ℕ). m ≤ k) (sym len) few))) ∙ len)) $ learn ! (λ is. at_once ! $ check ! (e, is) $ done !))
 
 -- ===== the loan =====
 

@@ -6,7 +6,7 @@ use mathlib.Core.Path.{◌∙◌, ◌≡◌, ap, refl, sym}
 use Prim.Native.Nat.{◌+◌, ◌<◌, ◌≤◌, suc, zero, ℕ}
 use native.Mathlib.Omega.{arith}
 use lib.ListN.{get_or, length, take}
-use lib.Seq.{get_or-take, length_take_le, take_all}
+use lib.Seq.{get_or-take, length-take-le, take_all}
 use Rattle.block_records.specs.declared.entry.BlockCacheEntry.{BlockCacheEntry}
 use Rattle.block_records.specs.declared.entry.MasterBlock.{MasterBlock}
 use Rattle.block_records.specs.declared.place.Place.{Place}
@@ -35,7 +35,7 @@ module _ (g : Group) (long : length g.entries ≡ 16) where
   listed_few = omega (arith, length_within 16 g.count g.entries long, within_few 16 g.count)
 
   pub listed_below : g.count < 16 → length (listed_entries g) < 16
-  listed_below h = omega (arith, length_take_le g.count g.entries (omega arith))
+  listed_below h = omega (arith, length-take-le g.count g.entries (omega arith))
 
   pub listed_full : 16 ≤ g.count → 16 ≤ length (listed_entries g)
   listed_full h = omega (arith, ap length (take_all g.count g.entries (omega arith)))

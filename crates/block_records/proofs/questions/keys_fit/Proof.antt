@@ -4,7 +4,7 @@ use Prim.Native.Nat.{◌≤◌, ◌-◌}
 use mathlib.Core.Path.{ap, ◌≡◌, sym, ◌∙◌}
 use native.Mathlib.Omega.{arith}
 use borrow.Author.Rules.{rules}
-use borrow.Author.Tests.{not_true, not-false}
+use borrow.Author.Tests.{not-true, not-false}
 use lib.ListN.{length, take}
 use Rattle.block_records.proofs.arrays.LoopLaws.{count_end, count_next, count_passed, count_stop, left, left_start, length_mapped}
 use Rattle.block_records.specs.rules.Lists.{every}
@@ -51,7 +51,7 @@ returns-2 c =
     let s = h.before.before in
     let n = long s in
     let l = t.loop-test.true in
-    sym (h.loop.invariant.1 ∙ count_stop key_fits _ s.args.given.keys _ _ (omega arith) u.if1.false (sym v.key_fits.ensures ∙ not_true v.key_fits.result c.if2.true))
+    sym (h.loop.invariant.1 ∙ count_stop key_fits _ s.args.given.keys _ _ (omega arith) u.if1.false (sym v.key_fits.ensures ∙ not-true v.key_fits.result c.if2.true))
 
 add-i : tie.Need-overflow-add-i invariant-loop decreases-loop
 add-i c = search rules

@@ -1,5 +1,5 @@
 -- Assumes nothing.
-use borrow.Author.Tests.{not_true, not-false, le-leb, lt-leb}
+use borrow.Author.Tests.{not-true, not-false, le-leb, lt-leb}
 use mathlib.Core.Path.{sym, ◌∙◌}
 use borrow.Author.Rules.{rules}
 use Rattle.block_records.proofs.questions.keys_refusal.Statement.{statement}
@@ -9,7 +9,7 @@ keys-fit-requires : tie.Need-keys-fit-requires
 keys-fit-requires c κs = search rules
 
 returns : tie.Need-returns
-returns c = rw (sym c.before.keys_fit.ensures ∙ not_true c.before.keys_fit.result c.if1.true)
+returns c = rw (sym c.before.keys_fit.ensures ∙ not-true c.before.keys_fit.result c.if1.true)
 
 returns-2 : tie.Need-returns-2
 returns-2 c = rw (sym c.before.before.before.keys_fit.ensures ∙ not-false c.before.before.before.keys_fit.result c.before.before.if1.false, le-leb _ _ c.if2.true)

@@ -5,7 +5,7 @@ use mathlib.Core.Path.{◌≡◌, sym, ◌∙◌}
 use native.Mathlib.Nat.{sub-zero}
 use native.Mathlib.Omega.{arith}
 use borrow.Author.Rules.{rules}
-use borrow.Author.Tests.{not_true, not-false}
+use borrow.Author.Tests.{not-true, not-false}
 use lib.ListN.{length, take}
 use Rattle.block_records.proofs.arrays.LoopLaws.{count_end, count_next, count_passed, count_stop, left, length_mapped}
 use Rattle.block_records.specs.rules.Lists.{every}
@@ -52,7 +52,7 @@ returns-2 c =
     let s = h.before.before in
     let n = long s in
     let l = t.loop-test.true in
-    sym (h.loop.invariant.1 ∙ count_stop top_fits _ s.args.tops.items _ _ (omega arith) u.if1.false (sym v.top_fits.ensures ∙ not_true v.top_fits.result c.if2.true))
+    sym (h.loop.invariant.1 ∙ count_stop top_fits _ s.args.tops.items _ _ (omega arith) u.if1.false (sym v.top_fits.ensures ∙ not-true v.top_fits.result c.if2.true))
 
 add-i : tie.Need-overflow-add-i invariant-loop decreases-loop
 add-i c = search rules

@@ -1,7 +1,7 @@
 -- Question 1, then the collected cache.
 -- Assumes nothing.
 use Rattle.std.proofs.Common.{[], sym, refl, ◌∙◌, rules}
-use borrow.Author.Tests.{not-false, not_true}
+use borrow.Author.Tests.{not-false, not-true}
 use Rattle.blocks_cache.proofs.layout.CallLaws.{unsound_answers_1}
 use Rattle.cache_rules.specs.Effects.{do_collect}
 use Rattle.blocks_cache.specs.arrays.Collection.{held_collect}
@@ -15,7 +15,7 @@ sound-cache-requires : tie.Need-sound-cache-requires
 sound-cache-requires c κs = search rules
 
 returns : tie.Need-returns
-returns c = sym (unsound_answers_1 _ _ (sym c.before.sound_cache.ensures ∙ not_true c.before.sound_cache.result c.if1.true))
+returns c = sym (unsound_answers_1 _ _ (sym c.before.sound_cache.ensures ∙ not-true c.before.sound_cache.result c.if1.true))
 
 held-collect-requires : tie.Need-held-collect-requires
 held-collect-requires c κs = search rules

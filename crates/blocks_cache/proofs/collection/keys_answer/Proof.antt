@@ -1,7 +1,7 @@
 -- Question 1, then those of the keys.
 -- Assumes nothing.
 use Rattle.std.proofs.Common.{sym, ◌∙◌, rules}
-use borrow.Author.Tests.{not-false, not_true}
+use borrow.Author.Tests.{not-false, not-true}
 use Rattle.blocks_cache.proofs.arrays.CollectionLaws.{keys_answered, keys_unsound}
 use Rattle.blocks_cache.proofs.collection.keys_answer.Statement.{statement}
 use Rattle.blocks_cache.proofs.collection.keys_answer.Tie as tie
@@ -10,7 +10,7 @@ sound-cache-requires : tie.Need-sound-cache-requires
 sound-cache-requires c κs = search rules
 
 returns : tie.Need-returns
-returns c = let s = c.before.before in keys_unsound s.args.given s.args.cache (sym c.before.sound_cache.ensures ∙ not_true c.before.sound_cache.result c.if1.true)
+returns c = let s = c.before.before in keys_unsound s.args.given s.args.cache (sym c.before.sound_cache.ensures ∙ not-true c.before.sound_cache.result c.if1.true)
 
 keys-refusal-requires : tie.Need-keys-refusal-requires
 keys-refusal-requires c κs = search rules

@@ -1,7 +1,7 @@
 -- Each return is a case of the definition.
 -- Assumes nothing.
 use Rattle.std.proofs.Common.{◌≡◌, ℕ, sym, ap, ◌∙◌, subst, rules}
-use borrow.Author.Tests.{not_true, not-false}
+use borrow.Author.Tests.{not-true, not-false}
 use Rattle.block_records.specs.rules.Questions.{seqno_fits}
 use Rattle.blocks_cache.specs.declared.extraction.ExtractRequest.{ExtractRequest}
 use Rattle.blocks_group.specs.rules.Group.{at_seqno}
@@ -23,7 +23,7 @@ returns c =
     let v = c.before.before in
     let s = v.before in
     unsound_refused s.args.cache s.args.places s.args.request c.no_extract.result c.no_extract.ensures
-    (sym v.sound_cache.ensures ∙ not_true v.sound_cache.result c.before.if1.true)
+    (sym v.sound_cache.ensures ∙ not-true v.sound_cache.result c.before.if1.true)
 
 request-seqno-requires : tie.Need-request-seqno-requires
 request-seqno-requires c κs = search rules
@@ -42,7 +42,7 @@ returns-2 c =
     let v = i.before in
     let s = v.before in
     unfit_refused s.args.cache s.args.places (sym v.sound_cache.ensures ∙ not-false v.sound_cache.result i.if1.false) s.args.request c.no-extract2.result c.no-extract2.ensures
-    (sym (f.seqno_fits.ensures ∙ ap seqno_fits q.request_seqno.ensures) ∙ not_true f.seqno_fits.result c.before.if2.true)
+    (sym (f.seqno_fits.ensures ∙ ap seqno_fits q.request_seqno.ensures) ∙ not-true f.seqno_fits.result c.before.if2.true)
 
 no-extract-requires-3 : tie.Need-no-extract-requires-3
 no-extract-requires-3 c κs = search rules

@@ -1,7 +1,7 @@
 -- The invariant: what is left of those listed decides.
 -- Assumes nothing.
 use Rattle.std.proofs.Common.{◌≡◌, ◌-◌, ◌≤◌, length, sym, ap, ◌∙◌, arith, rules}
-use borrow.Author.Tests.{not-false, not_true}
+use borrow.Author.Tests.{not-false, not-true}
 use Rattle.block_records.proofs.arrays.LoopLaws.{count_next, count_passed, count_stop, left, length_mapped}
 use Rattle.block_records.specs.rules.BlockId.{is_masterchain}
 use Rattle.block_records.specs.rules.Lists.{every}
@@ -52,7 +52,7 @@ returns c =
     let n = long s in
     let l = t.loop-test.true in
     let k = h.loop.invariant.1 in
-    let e = ap is_masterchain (sym v.before.id_shard.ensures) ∙ sym v.is_masterchain.ensures ∙ not_true v.is_masterchain.result c.if1.true in
+    let e = ap is_masterchain (sym v.before.id_shard.ensures) ∙ sym v.is_masterchain.ensures ∙ not-true v.is_masterchain.result c.if1.true in
     sym (h.loop.invariant.2 ∙ count_stop id_masterchain _ s.args.t1.ids _ _ (omega arith) l e)
 
 add-i : tie.Need-overflow-add-i invariant-loop decreases-loop

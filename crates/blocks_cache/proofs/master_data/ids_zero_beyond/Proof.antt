@@ -1,7 +1,7 @@
 -- The invariant: what is left from i on decides.
 -- Assumes nothing.
 use Rattle.std.proofs.Common.{◌≡◌, ◌-◌, ◌≤◌, length, drop, sym, ◌∙◌, arith, rules}
-use borrow.Author.Tests.{not-false, not_true}
+use borrow.Author.Tests.{not-false, not-true}
 use Rattle.block_records.proofs.arrays.LoopLaws.{length_mapped, rest_end, rest_next, rest_stop}
 use Rattle.block_records.specs.rules.Lists.{every}
 use Rattle.block_records.specs.layout.Zeros.{is_zero_id, zero_id}
@@ -36,7 +36,7 @@ returns c =
     let h = t.before in
     let n = long h.before in
     let l = t.loop-test.true in
-    sym (h.loop.invariant ∙ rest_stop is_zero_id _ h.before.args.t1.ids _ (omega arith) (sym v.is_zero_id.ensures ∙ not_true v.is_zero_id.result c.if1.true))
+    sym (h.loop.invariant ∙ rest_stop is_zero_id _ h.before.args.t1.ids _ (omega arith) (sym v.is_zero_id.ensures ∙ not-true v.is_zero_id.result c.if1.true))
 
 add-i : tie.Need-overflow-add-i invariant-loop decreases-loop
 add-i c = search rules

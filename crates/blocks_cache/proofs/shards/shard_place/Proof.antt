@@ -1,7 +1,7 @@
 -- The invariant: what is left of those listed decides, from place i on.
 -- Assumes nothing.
 use Rattle.std.proofs.Common.{◌≡◌, ◌-◌, ◌≤◌, length, take, sym, ap, ◌∙◌, arith, rules}
-use borrow.Author.Tests.{not-false, not_true}
+use borrow.Author.Tests.{not-false, not-true}
 use Rattle.block_records.proofs.arrays.ArrayLaws.{take_within, within_few}
 use Rattle.block_records.proofs.arrays.LoopLaws.{left, length_mapped}
 use Rattle.block_records.proofs.arrays.PlaceLaws.{place_found, place_gap, place_next, place_passed, place_start}
@@ -53,7 +53,7 @@ returns c =
     let n = long s in
     let l = t.loop-test.true in
     let k = h.loop.invariant.1 in
-    sym (h.loop.invariant.2 ∙ place_found (shard_below s.args.shard) (shard_at s.args.shard) _ s.args.t1 _ _ (omega arith) l (sym v.less_shard.ensures ∙ not_true v.less_shard.result c.before.before.if1.true) (sym c.before.same_shard.ensures ∙ c.if2.true))
+    sym (h.loop.invariant.2 ∙ place_found (shard_below s.args.shard) (shard_at s.args.shard) _ s.args.t1 _ _ (omega arith) l (sym v.less_shard.ensures ∙ not-true v.less_shard.result c.before.before.if1.true) (sym c.before.same_shard.ensures ∙ c.if2.true))
 
 returns-2 : tie.Need-returns-2 invariant-loop decreases-loop
 returns-2 c =
@@ -64,7 +64,7 @@ returns-2 c =
     let n = long s in
     let l = t.loop-test.true in
     let k = h.loop.invariant.1 in
-    sym (h.loop.invariant.2 ∙ place_gap (shard_below s.args.shard) (shard_at s.args.shard) _ s.args.t1 _ _ (omega arith) l (sym v.less_shard.ensures ∙ not_true v.less_shard.result c.before.before.if1.true) (sym c.before.same_shard.ensures ∙ c.if2.false))
+    sym (h.loop.invariant.2 ∙ place_gap (shard_below s.args.shard) (shard_at s.args.shard) _ s.args.t1 _ _ (omega arith) l (sym v.less_shard.ensures ∙ not-true v.less_shard.result c.before.before.if1.true) (sym c.before.same_shard.ensures ∙ c.if2.false))
 
 add-i : tie.Need-overflow-add-i invariant-loop decreases-loop
 add-i c = search rules

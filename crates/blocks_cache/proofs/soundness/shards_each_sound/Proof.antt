@@ -2,7 +2,7 @@
 -- Assumes nothing.
 use Rattle.std.proofs.Common.{◌≡◌, ◌-◌, ◌≤◌, length, take, sym, ◌∙◌, arith, rules}
 use native.Mathlib.Nat.{sub-zero}
-use borrow.Author.Tests.{not_true, not-false}
+use borrow.Author.Tests.{not-true, not-false}
 use Rattle.block_records.specs.rules.Lists.{every}
 use Rattle.block_records.proofs.arrays.LoopLaws.{count_end, count_next, count_passed, count_stop, left, length_mapped}
 use Rattle.blocks_cache.specs.layout.Cache.{sound_shard_group, zero_shard_group}
@@ -46,7 +46,7 @@ returns-2 c =
     let s = h.before in
     let n = long s in
     let l = t.loop-test.true in
-    sym (h.loop.invariant.1 ∙ count_stop sound_shard_group _ s.args.t1 _ _ (omega arith) u.if1.false (sym v.sound_shard_group.ensures ∙ not_true v.sound_shard_group.result c.if2.true))
+    sym (h.loop.invariant.1 ∙ count_stop sound_shard_group _ s.args.t1 _ _ (omega arith) u.if1.false (sym v.sound_shard_group.ensures ∙ not-true v.sound_shard_group.result c.if2.true))
 
 add-i : tie.Need-overflow-add-i invariant-loop decreases-loop
 add-i c = search rules

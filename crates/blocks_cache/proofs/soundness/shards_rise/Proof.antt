@@ -1,7 +1,7 @@
 -- The invariant of the loop: what is left from the place before i on decides.
 -- Assumes nothing.
 use Rattle.std.proofs.Common.{◌≡◌, ◌-◌, ◌<◌, ◌≤◌, length, take, sym, ap, ◌∙◌, arith, rules}
-use borrow.Author.Tests.{not_true, not-false}
+use borrow.Author.Tests.{not-true, not-false}
 use Rattle.block_records.specs.rules.Lists.{rising}
 use Rattle.block_records.proofs.rules.BlockIdLaws.{shard_order}
 use Rattle.block_records.proofs.rules.ListLaws.{by_order}
@@ -62,7 +62,7 @@ returns-2 c =
     let s = h.before in
     let n = long s in
     let l = t.loop-test.true in
-    sym (h.loop.invariant.1.1 ∙ rise_stop shard_group_before _ s.args.t1 _ _ h.loop.invariant.0 (omega arith) u.if1.false (sym v.less_shard.ensures ∙ not_true v.less_shard.result c.if2.true))
+    sym (h.loop.invariant.1.1 ∙ rise_stop shard_group_before _ s.args.t1 _ _ h.loop.invariant.0 (omega arith) u.if1.false (sym v.less_shard.ensures ∙ not-true v.less_shard.result c.if2.true))
 
 add-i : tie.Need-overflow-add-i invariant-loop decreases-loop
 add-i c = search rules

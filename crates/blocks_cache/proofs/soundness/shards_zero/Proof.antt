@@ -1,7 +1,7 @@
 -- The invariant of the loop: what is left from i on decides.
 -- Assumes nothing.
 use Rattle.std.proofs.Common.{◌≡◌, ◌-◌, ◌≤◌, length, drop, sym, ◌∙◌, arith, rules}
-use borrow.Author.Tests.{not_true, not-false}
+use borrow.Author.Tests.{not-true, not-false}
 use Rattle.block_records.specs.rules.Lists.{every}
 use Rattle.block_records.proofs.arrays.LoopLaws.{length_mapped, rest_end, rest_next, rest_stop}
 use Rattle.blocks_cache.specs.layout.Cache.{is_zero_shard_group, zero_shard_group}
@@ -37,7 +37,7 @@ returns c =
     let h = t.before in
     let n = long h.before in
     let l = t.loop-test.true in
-    sym (h.loop.invariant ∙ rest_stop is_zero_shard_group _ h.before.args.t1 _ (omega arith) (sym v.is_zero_shard_group.ensures ∙ not_true v.is_zero_shard_group.result c.if1.true))
+    sym (h.loop.invariant ∙ rest_stop is_zero_shard_group _ h.before.args.t1 _ (omega arith) (sym v.is_zero_shard_group.ensures ∙ not-true v.is_zero_shard_group.result c.if1.true))
 
 add-i : tie.Need-overflow-add-i invariant-loop decreases-loop
 add-i c = search rules

@@ -1,7 +1,7 @@
 -- Each way is a case of the definition.
 -- Assumes nothing.
 use Rattle.std.proofs.Common.{sym, refl, ◌∙◌, rules}
-use borrow.Author.Tests.{not-false, not_true}
+use borrow.Author.Tests.{not-false, not-true}
 use denote.Enum.Declared.{tag_of}
 use Rattle.blocks_group.specs.contracts.store.StoreAnswer.{the_type}
 use Rattle.blocks_cache.proofs.arrays.CollatedStoreLaws.{master_candidate_full, master_candidate_is, master_candidate_kept, master_candidate_put, master_candidate_unstored}
@@ -52,7 +52,7 @@ returns-3 c =
     let r = p.store_collated_master.result in
     c.nothing-stored2.ensures
     ∙ master_candidate_full s.args.candidate s.args.cache r.answer r.masters _ _ q.answer.given.1 f.before.before.if1.false
-    (sym f.has_place_for_id.ensures ∙ not_true f.has_place_for_id.result c.before.if2.true)
+    (sym f.has_place_for_id.ensures ∙ not-true f.has_place_for_id.result c.before.if2.true)
     ∙ master_candidate_is s.args.candidate s.args.cache r p.store_collated_master.ensures
 
 collated-ids-requires : tie.Need-collated-ids-requires

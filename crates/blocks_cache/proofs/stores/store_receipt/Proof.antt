@@ -1,7 +1,7 @@
 -- Questions 5 and 6, then by the side of the block.
 -- Assumes nothing.
 use Rattle.std.proofs.Common.{sym, ap, ◌∙◌, rules}
-use borrow.Author.Tests.{not-false, not_true}
+use borrow.Author.Tests.{not-false, not-true}
 use Rattle.block_records.specs.rules.BlockId.{is_masterchain}
 use Rattle.blocks_cache.proofs.arrays.ReceivedStoreLaws.{receipt_before, receipt_master, receipt_other, receipt_shard}
 use Rattle.blocks_cache.proofs.stores.store_receipt.Statement.{statement}
@@ -35,7 +35,7 @@ returns-2 c =
     let s = l.before.before.before in
     c.nothing-stored2.ensures
     ∙ receipt_other s.args.received s.args.cache l.if1.false (ap is_masterchain (sym p.before.id_shard.ensures) ∙ sym p.is_masterchain.ensures ∙ d.before.if2.true)
-    (sym d.same_id.ensures ∙ not_true d.same_id.result c.before.if3.true)
+    (sym d.same_id.ensures ∙ not-true d.same_id.result c.before.if3.true)
 
 store-master-receipt-requires : tie.Need-store-master-receipt-requires
 store-master-receipt-requires c κs = search rules

@@ -1,7 +1,7 @@
 -- Question 1, then the record's own questions, then the rest.
 -- Assumes nothing.
 use Rattle.std.proofs.Common.{sym, ap, ◌∙◌, subst, rules}
-use borrow.Author.Tests.{not-false, not_true}
+use borrow.Author.Tests.{not-false, not-true}
 use Rattle.block_records.specs.rules.Questions.{received_questions}
 use Rattle.blocks_cache.specs.layout.Cache.{view}
 use Rattle.blocks_cache.specs.arrays.Stores.{store_outcome}
@@ -23,7 +23,7 @@ returns c =
     let p = c.before.before in
     let s = p.before in
     promised_unsound s.args.cache (store_received s.args.received) _ c.nothing_stored.ensures
-    (sym p.sound_cache.ensures ∙ not_true p.sound_cache.result c.before.if1.true)
+    (sym p.sound_cache.ensures ∙ not-true p.sound_cache.result c.before.if1.true)
 
 received-refusal-requires : tie.Need-received-refusal-requires
 received-refusal-requires c κs = search rules

@@ -1,7 +1,7 @@
 -- Each way is a case of the definition.
 -- Assumes nothing.
 use Rattle.std.proofs.Common.{sym, refl, ◌∙◌, rules}
-use borrow.Author.Tests.{not-false, not_true}
+use borrow.Author.Tests.{not-false, not-true}
 use denote.Enum.Declared.{tag_of}
 use Rattle.blocks_group.specs.contracts.store.StoreAnswer.{the_type}
 use Rattle.blocks_cache.proofs.arrays.CollatedStoreLaws.{shard_candidate_full, shard_candidate_is, shard_candidate_kept, shard_candidate_put, shard_candidate_unstored}
@@ -24,7 +24,7 @@ returns c =
     let s = i.before in
     c.nothing_stored.ensures
     ∙ shard_candidate_full s.args.candidate s.args.cache i.id_shard.result i.id_shard.ensures x.shard_held.result x.shard_held.ensures
-    (not_true x.shard_held.result.room c.before.if1.true)
+    (not-true x.shard_held.result.room c.before.if1.true)
 
 store-collated-block-requires : tie.Need-store-collated-block-requires
 store-collated-block-requires c κs = search rules

@@ -1,7 +1,7 @@
 -- Each way is a case of the definition.
 -- Assumes nothing.
 use Rattle.std.proofs.Common.{refl, ◌∙◌, rules}
-use borrow.Author.Tests.{not-false, not_true}
+use borrow.Author.Tests.{not-false, not-true}
 use denote.Enum.Declared.{tag_of}
 use Rattle.blocks_group.specs.contracts.store.StoreAnswer.{the_type}
 use Rattle.blocks_cache.proofs.arrays.ReceivedStoreLaws.{shard_receipt_full, shard_receipt_is, shard_receipt_put, shard_receipt_unstored}
@@ -24,7 +24,7 @@ returns c =
     let s = i.before in
     c.nothing_stored.ensures
     ∙ shard_receipt_full s.args.received s.args.cache i.id_shard.result i.id_shard.ensures x.shard_held.result x.shard_held.ensures
-    (not_true x.shard_held.result.room c.before.if1.true)
+    (not-true x.shard_held.result.room c.before.if1.true)
 
 store-received-block-requires : tie.Need-store-received-block-requires
 store-received-block-requires c κs = search rules

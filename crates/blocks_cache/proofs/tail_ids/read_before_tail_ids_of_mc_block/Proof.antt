@@ -1,7 +1,7 @@
 -- Question 1, question 2, and the rest.
 -- Assumes nothing.
 use Rattle.std.proofs.Common.{sym, ◌∙◌, rules}
-use borrow.Author.Tests.{not-false, not_true}
+use borrow.Author.Tests.{not-false, not-true}
 use Rattle.blocks_cache.proofs.arrays.TailIdsLaws.{tails_are, tails_refuses, tails_unsound}
 use Rattle.blocks_cache.proofs.tail_ids.read_before_tail_ids_of_mc_block.Statement.{statement}
 use Rattle.blocks_cache.proofs.tail_ids.read_before_tail_ids_of_mc_block.Tie as tie
@@ -13,7 +13,7 @@ no-tails-requires : tie.Need-no-tails-requires
 no-tails-requires c κs = search rules
 
 returns : tie.Need-returns
-returns c = let s = c.before.before.before in tails_unsound s.args.cache s.args.short _ (sym c.before.before.sound_cache.ensures ∙ not_true c.before.before.sound_cache.result c.before.if1.true) c.no_tails.ensures
+returns c = let s = c.before.before.before in tails_unsound s.args.cache s.args.short _ (sym c.before.before.sound_cache.ensures ∙ not-true c.before.before.sound_cache.result c.before.if1.true) c.no_tails.ensures
 
 key-fits-requires : tie.Need-key-fits-requires
 key-fits-requires c κs = search rules
@@ -24,7 +24,7 @@ no-tails-requires-2 c κs = search rules
 returns-2 : tie.Need-returns-2
 returns-2 c =
     let s = c.before.before.before.before.before in
-    tails_refuses s.args.cache s.args.short _ (sym c.before.before.before.before.sound_cache.ensures ∙ not-false c.before.before.before.before.sound_cache.result c.before.before.before.if1.false) (sym c.before.before.key_fits.ensures ∙ not_true c.before.before.key_fits.result c.before.if2.true) c.no-tails2.ensures
+    tails_refuses s.args.cache s.args.short _ (sym c.before.before.before.before.sound_cache.ensures ∙ not-false c.before.before.before.before.sound_cache.result c.before.before.before.if1.false) (sym c.before.before.key_fits.ensures ∙ not-true c.before.before.key_fits.result c.before.if2.true) c.no-tails2.ensures
 
 read-tails-requires : tie.Need-read-tails-requires
 read-tails-requires c κs = sym c.before.before.before.sound_cache.ensures ∙ not-false c.before.before.before.sound_cache.result c.before.before.if1.false

@@ -1,6 +1,6 @@
 -- The invariant of the loop: the tops that are left make of the walk so far what all make of the first.
 -- Assumes nothing.
-use Rattle.std.proofs.Common.{◌≡◌, ◌-◌, ◌<◌, ◌≤◌, true, [], length, take, sym, refl, ap, ◌∙◌, arith, length_take_le, rules}
+use Rattle.std.proofs.Common.{◌≡◌, ◌-◌, ◌<◌, ◌≤◌, true, [], length, take, sym, refl, ap, ◌∙◌, arith, length-take-le, rules}
 use Rattle.block_records.proofs.arrays.ArrayLaws.{take_within, within_few}
 use Rattle.block_records.proofs.arrays.LoopLaws.{length_mapped}
 use Rattle.block_records.specs.rules.Lists.{each, fold}
@@ -126,7 +126,7 @@ array-share-prefix-fingerprints : tie.Need-array-share-prefix-fingerprints invar
 array-share-prefix-fingerprints c = omega (arith, few c.before.before.before.before.before.before.before.before.before.before.before.before.before.before, prints c.before.before.before.before.before.before.before.before.before.before.before.before.before.before)
 
 slice-aggregate-next-ids : tie.Need-slice-aggregate-next-ids invariant-loop decreases-loop
-slice-aggregate-next-ids c = sym (length_take_le _ _ (omega (arith, few c.before.before.before.before.before.before.before.before.before.before.before.before.before.before.before, prints c.before.before.before.before.before.before.before.before.before.before.before.before.before.before.before)))
+slice-aggregate-next-ids c = sym (length-take-le _ _ (omega (arith, few c.before.before.before.before.before.before.before.before.before.before.before.before.before.before.before, prints c.before.before.before.before.before.before.before.before.before.before.before.before.before.before.before)))
 
 next-ids-requires : tie.Need-next-ids-requires invariant-loop decreases-loop
 next-ids-requires c κs = waits_fingerprints c.before.before.before.before.before.before.before.before.before.before.before.before.before.before.before.loop.ids c.before.before.before.before.before.before.before.before.before.before.before.before.before.before.before.loop.fingerprints c.before.before.before.before.before.before.before.before.before.before.before.before.before.before.before.loop.count c.before.before.before.before.before.before.before.before.before.before.before.before.before.before.before.loop.invariant.waits

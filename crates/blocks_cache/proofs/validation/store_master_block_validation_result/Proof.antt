@@ -1,7 +1,7 @@
 -- Question 1, question 2, and the rest.
 -- Assumes nothing.
 use Rattle.std.proofs.Common.{sym, ap, ◌∙◌, rules}
-use borrow.Author.Tests.{not-false, not_true}
+use borrow.Author.Tests.{not-false, not-true}
 use Rattle.blocks_cache.proofs.layout.CallLaws.{unsound_answers_1}
 use Rattle.blocks_cache.specs.arrays.Validation.{validation_outcome}
 use Rattle.blocks_cache.proofs.arrays.ValidationLaws.{validation_is, validation_refuses}
@@ -12,13 +12,13 @@ sound-cache-requires : tie.Need-sound-cache-requires
 sound-cache-requires c κs = search rules
 
 returns : tie.Need-returns
-returns c = sym (unsound_answers_1 _ _ (sym c.before.sound_cache.ensures ∙ not_true c.before.sound_cache.result c.if1.true))
+returns c = sym (unsound_answers_1 _ _ (sym c.before.sound_cache.ensures ∙ not-true c.before.sound_cache.result c.if1.true))
 
 id-fits-requires : tie.Need-id-fits-requires
 id-fits-requires c κs = search rules
 
 returns-2 : tie.Need-returns-2
-returns-2 c = let s = c.before.before.before.before in validation_refuses s.args.cache s.args.block-id _ (sym c.before.before.before.sound_cache.ensures ∙ not-false c.before.before.before.sound_cache.result c.before.before.if1.false) (sym c.before.id_fits.ensures ∙ not_true c.before.id_fits.result c.if2.true)
+returns-2 c = let s = c.before.before.before.before in validation_refuses s.args.cache s.args.block-id _ (sym c.before.before.before.sound_cache.ensures ∙ not-false c.before.before.before.sound_cache.result c.before.before.if1.false) (sym c.before.id_fits.ensures ∙ not-true c.before.id_fits.result c.if2.true)
 
 validate-master-requires : tie.Need-validate-master-requires
 validate-master-requires c κs = search rules

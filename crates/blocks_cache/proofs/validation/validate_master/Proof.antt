@@ -1,6 +1,6 @@
 -- What stands at the seqno, its kind, and the entry put back.
 -- Assumes nothing.
-use borrow.Author.Tests.{not-false, not_true}
+use borrow.Author.Tests.{not-false, not-true}
 use Rattle.blocks_cache.proofs.arrays.ValidationLaws.{validate_kept, validate_set, validate_vacant}
 use Rattle.std.proofs.Common.{rules}
 use Rattle.blocks_cache.proofs.validation.validate_master.Statement.{statement}
@@ -22,7 +22,7 @@ validated-kind-requires : tie.Need-validated-kind-requires
 validated-kind-requires c κs = search rules
 
 returns-2 : tie.Need-returns-2
-returns-2 c = let s = c.before.before.before.before.before.before.before in validate_kept _ _ s.args.cache _ c.before.before.before.before.before.before.master_at.ensures _ c.before.before.before.before.enum_told.given.1 _ c.before.before.validated_kind.ensures (not_true _ c.if1.true)
+returns-2 c = let s = c.before.before.before.before.before.before.before in validate_kept _ _ s.args.cache _ c.before.before.before.before.before.before.master_at.ensures _ c.before.before.before.before.enum_told.given.1 _ c.before.before.validated_kind.ensures (not-true _ c.if1.true)
 
 with-data-requires : tie.Need-with-data-requires
 with-data-requires c κs = search rules

@@ -5,7 +5,7 @@ use Prim.Native.Nat.{◌-◌, ◌≤◌}
 use native.Mathlib.Omega.{arith}
 use borrow.Author.Rules.{rules}
 use lib.ListN.{length, length-set, take}
-use lib.Seq.{length_take_le}
+use lib.Seq.{length-take-le}
 use Rattle.block_records.proofs.arrays.ArrayLaws.{each_end, each_next, length_each_take, take_padded_at, take_within, within_few}
 use Rattle.block_records.proofs.arrays.LoopLaws.{length_mapped, padded_nil}
 use Rattle.block_records.specs.rules.Lists.{each, padded}
@@ -62,7 +62,7 @@ array-share-prefix-seqnos : tie.Need-array-share-prefix-seqnos invariant-loop de
 array-share-prefix-seqnos c = search rules
 
 slice-aggregate-search : tie.Need-slice-aggregate-search invariant-loop decreases-loop
-slice-aggregate-search c = sym (length_take_le _ _ (search rules))
+slice-aggregate-search c = sym (length-take-le _ _ (search rules))
 
 search-requires : tie.Need-search-requires invariant-loop decreases-loop
 search-requires c κs = search rules

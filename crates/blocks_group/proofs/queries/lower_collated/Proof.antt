@@ -1,7 +1,7 @@
 -- Each branch is a case of the choice.
 -- Assumes nothing.
 use mathlib.Core.Path.{◌∙◌, ◌≡◌, sym}
-use borrow.Author.Tests.{not-false, not_true}
+use borrow.Author.Tests.{not-false, not-true}
 use Rattle.blocks_group.specs.arrays.Queries.{lower_of}
 use Rattle.blocks_group.proofs.arrays.QueryStepLaws.{best_chosen, best_first, best_kept, lower_new, lower_old}
 use borrow.Author.Rules.{rules}
@@ -14,7 +14,7 @@ held-collated-above-requires c κs = search rules
 returns : tie.Need-returns
 returns c =
     let v = c.before in
-    best_kept lower_of v.before.args.best _ _ (sym v.held_collated_above.ensures ∙ not_true v.held_collated_above.result c.if1.true)
+    best_kept lower_of v.before.args.best _ _ (sym v.held_collated_above.ensures ∙ not-true v.held_collated_above.result c.if1.true)
 
 enum_told : tie.Need-enum-told
 enum_told c = search rules

@@ -5,7 +5,7 @@ use mathlib.Core.Bool.{true}
 use mathlib.Core.Path.{◌≡◌, sym, ◌∙◌}
 use native.Mathlib.Nat.{sub-zero}
 use native.Mathlib.Omega.{arith}
-use borrow.Author.Tests.{not_true, not-false}
+use borrow.Author.Tests.{not-true, not-false}
 use lib.ListN.{length}
 use Rattle.block_records.specs.layout.Zeros.{is_zero_entry}
 use Rattle.block_records.proofs.arrays.LoopLaws.{length_mapped}
@@ -48,7 +48,7 @@ returns-2 : tie.Need-returns-2 invariant-loop decreases-loop
 returns-2 c =
     let v = c.before in
     let s = v.before.before in
-    sym (unsound_boundary (of_shard s.args.shard) s.args.t1 (len s) (sym v.boundary-in-shard.ensures ∙ not_true v.boundary-in-shard.result c.if2.true))
+    sym (unsound_boundary (of_shard s.args.shard) s.args.t1 (len s) (sym v.boundary-in-shard.ensures ∙ not-true v.boundary-in-shard.result c.if2.true))
 
 loop-holds : tie.Need-loop-init invariant-loop decreases-loop
 loop-holds c = (search rules, rw sub-zero)
@@ -70,7 +70,7 @@ returns-3 c =
     let s = h.before.before.before.before in
     let n = len s in
     let l = u.before.before.loop-test.true in
-    sym (whole h.before ∙ h.loop.invariant.1 ∙ walk_not_zero (sound_entry (of_shard s.args.shard)) is_zero_entry held_seqno s.args.t1.entries _ _ _ _ (omega arith) u.if3.true (sym v.is_zero_entry.ensures ∙ not_true v.is_zero_entry.result c.if4.true))
+    sym (whole h.before ∙ h.loop.invariant.1 ∙ walk_not_zero (sound_entry (of_shard s.args.shard)) is_zero_entry held_seqno s.args.t1.entries _ _ _ _ (omega arith) u.if3.true (sym v.is_zero_entry.ensures ∙ not-true v.is_zero_entry.result c.if4.true))
 
 add-i : tie.Need-overflow-add-i invariant-loop decreases-loop
 add-i c = search rules
@@ -99,7 +99,7 @@ returns-4 c =
     let s = h.before.before.before.before in
     let n = len s in
     let l = u.before.before.loop-test.true in
-    sym (whole h.before ∙ h.loop.invariant.1 ∙ walk_stop (sound_entry (of_shard s.args.shard)) is_zero_entry held_seqno s.args.t1.entries _ _ _ _ (omega arith) u.if3.false (sym v.sound_entry.ensures ∙ not_true v.sound_entry.result c.if5.true))
+    sym (whole h.before ∙ h.loop.invariant.1 ∙ walk_stop (sound_entry (of_shard s.args.shard)) is_zero_entry held_seqno s.args.t1.entries _ _ _ _ (omega arith) u.if3.false (sym v.sound_entry.ensures ∙ not-true v.sound_entry.result c.if5.true))
 
 returns-5 : tie.Need-returns-5 invariant-loop decreases-loop
 returns-5 c =

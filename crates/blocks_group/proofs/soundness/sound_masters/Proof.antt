@@ -2,7 +2,7 @@
 -- Assumes nothing.
 use Prim.Native.Nat.{◌≤◌, ◌-◌}
 use mathlib.Core.Path.{◌≡◌, ap, sym, ◌∙◌}
-use borrow.Author.Tests.{not_true, not-false}
+use borrow.Author.Tests.{not-true, not-false}
 use lib.ListN.{length, take}
 use Rattle.block_records.proofs.arrays.LoopLaws.{left, left_start, length_mapped}
 use Rattle.block_records.specs.rules.Lists.{every}
@@ -58,7 +58,7 @@ returns-2 c =
     let u = v.before.before.before in
     let h = u.before.before in
     let s = h.before in
-    sym (h.loop.invariant.1 ∙ masters_stop sound_master s.args.t1.entries s.args.t2 (len s) (len-tops s) _ _ _ _ _ u.before.loop-test.true u.if1.false v.sound_master.ensures (not_true v.sound_master.result c.if2.true))
+    sym (h.loop.invariant.1 ∙ masters_stop sound_master s.args.t1.entries s.args.t2 (len s) (len-tops s) _ _ _ _ _ u.before.loop-test.true u.if1.false v.sound_master.ensures (not-true v.sound_master.result c.if2.true))
 
 add-i : tie.Need-overflow-add-i invariant-loop decreases-loop
 add-i c = search rules

@@ -3,7 +3,7 @@
 use Prim.Native.Nat.{◌-◌}
 use mathlib.Core.Path.{◌≡◌, sym, ◌∙◌}
 use native.Mathlib.Omega.{arith}
-use borrow.Author.Tests.{not_true, not-false}
+use borrow.Author.Tests.{not-true, not-false}
 use lib.ListN.{length, drop}
 use Rattle.block_records.proofs.arrays.LoopLaws.{length_mapped, rest_end, rest_next, rest_stop}
 use Rattle.block_records.specs.rules.Lists.{every}
@@ -41,7 +41,7 @@ returns c =
     let s = h.before in
     let n = len s in
     let l = t.loop-test.true in
-    sym (h.loop.invariant ∙ rest_stop is_zero_tops _ s.args.t1 _ (omega arith) (sym v.is_zero_tops.ensures ∙ not_true v.is_zero_tops.result c.if1.true))
+    sym (h.loop.invariant ∙ rest_stop is_zero_tops _ s.args.t1 _ (omega arith) (sym v.is_zero_tops.ensures ∙ not-true v.is_zero_tops.result c.if1.true))
 
 add-i : tie.Need-overflow-add-i invariant-loop decreases-loop
 add-i c = search rules

@@ -1,7 +1,7 @@
 -- Each branch is a case of the definition.
 -- Assumes nothing.
 use mathlib.Core.Path.{◌∙◌, sym}
-use borrow.Author.Tests.{not-false, not_true}
+use borrow.Author.Tests.{not-false, not-true}
 use Rattle.blocks_group.proofs.arrays.StoreStepLaws.{collated_again, collated_fresh, collated_full, collated_other, collated_same}
 use borrow.Author.Rules.{rules}
 use Rattle.blocks_group.proofs.store.collated_step.Statement.{statement}
@@ -35,7 +35,7 @@ refused-step-requires-2 : tie.Need-refused-step-requires-2
 refused-step-requires-2 c κs = search rules
 
 returns-3 : tie.Need-returns-3
-returns-3 c = c.refused-step2.ensures ∙ collated_again c.before.before.before.before.before.args.c c.before.before.before.before.before.args.room c.before.before.before.before.before.args.found c.before.before.before.before.before.args.block _ c.before.before.before.enum_told.given.1 (sym c.before.before.held_received.ensures ∙ not_true c.before.before.held_received.result c.before.if2.true)
+returns-3 c = c.refused-step2.ensures ∙ collated_again c.before.before.before.before.before.args.c c.before.before.before.before.before.args.room c.before.before.before.before.before.args.found c.before.before.before.before.before.args.block _ c.before.before.before.enum_told.given.1 (sym c.before.before.held_received.ensures ∙ not-true c.before.before.held_received.result c.before.if2.true)
 
 same-id-requires : tie.Need-same-id-requires
 same-id-requires c κs = search rules
@@ -44,7 +44,7 @@ kept-step-requires : tie.Need-kept-step-requires
 kept-step-requires c κs = search rules
 
 returns-4 : tie.Need-returns-4
-returns-4 c = c.kept_step.ensures ∙ collated_other c.before.before.before.before.before.before.before.args.c c.before.before.before.before.before.before.before.args.room c.before.before.before.before.before.before.before.args.found c.before.before.before.before.before.before.before.args.block _ c.before.before.before.before.before.enum_told.given.1 (sym c.before.before.before.before.held_received.ensures ∙ not-false c.before.before.before.before.held_received.result c.before.before.before.if2.false) (sym c.before.before.same_id.ensures ∙ not_true c.before.before.same_id.result c.before.if3.true)
+returns-4 c = c.kept_step.ensures ∙ collated_other c.before.before.before.before.before.before.before.args.c c.before.before.before.before.before.before.before.args.room c.before.before.before.before.before.before.before.args.found c.before.before.before.before.before.before.before.args.block _ c.before.before.before.before.before.enum_told.given.1 (sym c.before.before.before.before.held_received.ensures ∙ not-false c.before.before.before.before.held_received.result c.before.before.before.if2.false) (sym c.before.before.same_id.ensures ∙ not-true c.before.before.same_id.result c.before.if3.true)
 
 collated-kind-requires : tie.Need-collated-kind-requires
 collated-kind-requires c κs = search rules

@@ -1,7 +1,7 @@
 -- Each branch is a case of the definition.
 -- Assumes nothing.
 use mathlib.Core.Path.{◌∙◌, sym}
-use borrow.Author.Tests.{not-false, not_true}
+use borrow.Author.Tests.{not-false, not-true}
 use Rattle.blocks_group.proofs.arrays.StoreStepLaws.{received_again, received_fresh, received_full, received_other, received_same}
 use borrow.Author.Rules.{rules}
 use Rattle.blocks_group.proofs.store.received_step.Statement.{statement}
@@ -47,7 +47,7 @@ stored-step-requires-2 : tie.Need-stored-step-requires-2
 stored-step-requires-2 c κs = search rules
 
 returns-4 : tie.Need-returns-4
-returns-4 c = c.stored-step2.ensures ∙ received_other c.before.before.before.before.before.before.before.before.args.zerostate c.before.before.before.before.before.before.before.before.args.r c.before.before.before.before.before.before.before.before.args.room c.before.before.before.before.before.before.before.before.args.found c.before.before.before.before.before.before.before.before.args.block _ c.before.before.before.before.before.before.enum_told.given.1 (sym c.before.before.before.before.before.held_received.ensures ∙ c.before.before.before.before.if2.false) _ (sym c.before.before.before.same_id.ensures ∙ not_true c.before.before.before.same_id.result c.before.before.if3.true) c.before.fresh-received-master2.ensures
+returns-4 c = c.stored-step2.ensures ∙ received_other c.before.before.before.before.before.before.before.before.args.zerostate c.before.before.before.before.before.before.before.before.args.r c.before.before.before.before.before.before.before.before.args.room c.before.before.before.before.before.before.before.before.args.found c.before.before.before.before.before.before.before.before.args.block _ c.before.before.before.before.before.before.enum_told.given.1 (sym c.before.before.before.before.before.held_received.ensures ∙ c.before.before.before.before.if2.false) _ (sym c.before.before.before.same_id.ensures ∙ not-true c.before.before.before.same_id.result c.before.before.if3.true) c.before.fresh-received-master2.ensures
 
 received-kind-requires : tie.Need-received-kind-requires
 received-kind-requires c κs = search rules
