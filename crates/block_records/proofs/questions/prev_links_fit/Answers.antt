@@ -1,0 +1,34 @@
+use Prim.Native.Nat.{◌-◌}
+use mathlib.Core.Path.{◌≡◌, sym, ◌∙◌}
+use native.Mathlib.Nat.{sub-zero}
+use native.Mathlib.Omega.{arith}
+use borrow.Author.Rules.{rules}
+use lib.ListN.{length}
+use Rattle.block_records.proofs.arrays.LoopLaws.{count_end, count_next, count_passed, count_stop, length_mapped}
+use Rattle.block_records.specs.rules.Questions.{previous_fits}
+use Rattle.block_records.specs.layout.Zeros.{zero_id}
+use Rattle.block_records.proofs.questions.prev_links_fit.Goals as goal
+
+pub loop-i-init : goal.loop-i-init
+loop-i-init c = (search rules, rw sub-zero)
+
+pub returns-then-count-i : goal.returns-then-count-i
+returns-then-count-i c = sym (c.loop-i.invariant.1 ∙ count_passed (previous_fits c.args.id) zero_id c.args.prev.ids _ _ c.if-count-i.true)
+
+pub returns-then-not-previous_fits : goal.returns-then-not-previous_fits
+returns-then-not-previous_fits c =
+    let n : length c.args.prev.ids ≡ 2 = search (rules, length_mapped) in
+    let l = c.loop-i-test.true in
+    sym (c.loop-i.invariant.1 ∙ count_stop (previous_fits c.args.id) _ c.args.prev.ids _ _ (omega arith) c.if-count-i.false (sym c.previous_fits.ensures ∙ c.if-not-previous_fits.true))
+
+pub loop-i-preserved : goal.loop-i-preserved
+loop-i-preserved c =
+    let n : length c.args.prev.ids ≡ 2 = search (rules, length_mapped) in
+    let l = c.loop-i-test.true in
+    (search rules, c.loop-i.invariant.1 ∙ count_next (previous_fits c.args.id) _ c.args.prev.ids _ _ (omega arith) c.if-count-i.false (sym c.previous_fits.ensures ∙ c.if-not-previous_fits.false))
+
+pub returns : goal.returns
+returns c =
+    let n : length c.args.prev.ids ≡ 2 = search (rules, length_mapped) in
+    let l = c.loop-i-test.false in
+    sym (c.loop-i.invariant.1 ∙ count_end (previous_fits c.args.id) zero_id c.args.prev.ids _ c.loop-i.i (omega arith))

@@ -1,0 +1,14 @@
+-- The invariant of the loop: what is left of the first `count` decides.
+use Prim.Native.Nat.{◌≤◌, ◌-◌}
+use mathlib.Core.Path.{◌≡◌}
+use lib.ListN.{take}
+use Rattle.block_records.proofs.arrays.LoopLaws.{left}
+use Rattle.block_records.specs.rules.Lists.{every}
+use Rattle.block_records.specs.rules.Questions.{top_outside}
+use Rattle.block_records.proofs.questions.tops_outside.Given as goal
+
+abbrev pub invariant-loop-i : goal.invariant-loop-i
+invariant-loop-i l = (l.i ≤ 8) × (every top_outside (take l.count l.items) ≡ every top_outside (left l.items l.count l.i))
+
+abbrev pub decreases-loop-i : goal.decreases-loop-i
+decreases-loop-i l = 8 - l.i
