@@ -31,7 +31,7 @@ use Rattle.cache_rules.proofs.SoundLaws.{cached_lookup, lookup_cached, parts}
 use Rattle.cache_rules.proofs.SoundSteps.{Yes, all_yes, step_sound}
 use Rattle.cache_rules.specs.Calls.{Call, Effect, Extract, Request, Validation, collect, handed, peek, pop, read_tail_ids, remove_next_collated, set_boundary, store_collated, store_received, store_validation, sync}
 use Rattle.cache_rules.specs.Claim.{Cached, HandsOut, Joins, Once, Reached, ReachedKey, StepHolds, StepsClaim}
-use Rattle.cache_rules.specs.Effects.{after, answered, at_front, do_store_received, effect, extract_of, peek_entry, pop_entry, step, sync_entry, tail_ids_entry, validate_entry, validate_kind, validated_kind}
+use Rattle.cache_rules.specs.Effects.{answered, at_front, do_store_received, effect, extract_of, peek_entry, pop_entry, step, sync_entry, tail_ids_entry, validate_entry, validate_kind, validated_kind}
 use Rattle.cache_rules.specs.Extraction.{extraction_of, previous_in, starting_ids}
 use Rattle.cache_rules.specs.Model.{Model, ShardModel, applied_from, block_under, first_applied}
 use Rattle.cache_rules.specs.Refusals.{further, is_synced, questions, sound_model}

@@ -12,7 +12,6 @@ use lib.Dec.{eqb}
 use lib.ListN.{length, length-append}
 use Rattle.block_records.specs.declared.block_id.BlockId.{BlockId}
 use Rattle.block_records.specs.declared.block_id.BlockIdShort.{BlockIdShort}
-use Rattle.block_records.proofs.arrays.LoopLaws.{left}
 use Rattle.block_records.proofs.rules.BlockIdLaws.{key_dec}
 use Rattle.block_records.proofs.rules.Tests.{on, some_not_none}
 use Rattle.block_records.specs.rules.BlockId.{key}
@@ -20,7 +19,6 @@ use Rattle.block_records.specs.rules.Entry.{Entry}
 use Rattle.cache_rules.proofs.ShardLaws.{lookup_others, lookup_refreshed, lookup_removed, previous_refreshed, previous_removed}
 use Rattle.cache_rules.specs.Extraction.{Walk, previous_cached, starts, take_found, take_id, take_one, take_times}
 use Rattle.cache_rules.specs.Model.{ShardModel, block_under, refresh_shard, remove_block}
-use Rattle.cache_rules.specs.TailIds.{waits}
 
 -- no two of the entries have one key
 abbrev pub OnceEntries : List Entry → Type 0

@@ -30,7 +30,6 @@ use Rattle.blocks_group.specs.rules.Group.{Stored, at_seqno, changed_entries, st
 use Rattle.blocks_group.specs.rules.Soundness.{of_shard, sound_group_model}
 use Rattle.cache_rules.proofs.ShardLaws.{group_of_sound, shards_set}
 use Rattle.cache_rules.proofs.SoundLaws.{IdsOk, Rest}
-use Rattle.cache_rules.specs.Calls.{stored}
 use Rattle.cache_rules.specs.Effects.{collated_data, do_store_collated, do_store_received, received_stored, store_change}
 use Rattle.cache_rules.specs.Model.{Model, ShardModel, entry_for, find_shard, group_in, group_of, id_before, ids_below}
 use Rattle.cache_rules.specs.Refusals.{has_id_room, has_room, id_masterchain, inserts_or_updates, is_synced}

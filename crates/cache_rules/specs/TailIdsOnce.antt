@@ -5,7 +5,7 @@ use Rattle.block_records.specs.declared.block_id.BlockId.{BlockId}
 use Rattle.block_records.specs.rules.BlockId.{same_id}
 use Rattle.block_records.specs.rules.Entry.{Entry}
 use Rattle.block_records.specs.rules.Lists.{find, flat_map, fold, pick, present}
-use Rattle.cache_rules.specs.Calls.{TailRow, done}
+use Rattle.cache_rules.specs.Calls.{TailRow}
 use Rattle.cache_rules.specs.Extraction.{previous_cached}
 use Rattle.cache_rules.specs.Model.{ShardModel}
 use Rattle.cache_rules.specs.TailIds.{first_row, gives, hold, queues, top_ids}

@@ -1,6 +1,6 @@
 -- The collated store of the whole cache: each way through the code is a case of its definition, and on a sound cache it is the rule, packed.
 -- Assumes nothing.
-use Rattle.std.proofs.Common.{◌≡◌, ℕ, Bool, true, false, not, ◌&&◌, ◌||◌, ltb, ◌⊎◌, List, [], ◌∷◌, ◌++◌, length, sym, refl, ap, ◌∙◌, subst, ap₂, subst₂, leb-true}
+use Rattle.std.proofs.Common.{◌≡◌, ℕ, Bool, true, false, not, ◌&&◌, ◌||◌, ltb, List, [], ◌∷◌, ◌++◌, length, sym, refl, ap, ◌∙◌, subst, ap₂, subst₂, leb-true}
 use mathlib.Core.Option.{Option, none, some}
 use Rattle.block_records.specs.declared.block_id.BlockId.{BlockId}
 use Rattle.block_records.specs.declared.block_id.ShardIdent.{ShardIdent}
@@ -92,12 +92,12 @@ module _ (c : BlockCandidate) (h : Cache) where
 
 -- ===== Synced or refused =====
 
-module _ (tag : StoreAnswer → ℕ) (first : (both mismatch : Bool) → tag (stored_answer both mismatch) ≡ 0) (h : Cache) (a : StoreAnswer) (t : (tag a ≡ 1) ⊎ (tag a ≡ 2)) where
+module _ (h : Cache) (a : StoreAnswer) (t : (both mismatch : Bool) → a ≡ stored_answer both mismatch → ⊥) where
   pub master_candidate_unstored : (c : BlockCandidate) (g : MasterGroup) → nothing_stored a h ≡ master_candidate_stored c a g h
-  master_candidate_unstored c g = unstored tag first (λ (x : StoreAnswer). master_candidate_stored c x g h) h refl (λ n. refl) a t
+  master_candidate_unstored c g = unstored (λ (x : StoreAnswer). master_candidate_stored c x g h) h refl (λ n. refl) a t
 
   pub shard_candidate_unstored : (g : ShardGroup) → nothing_stored a h ≡ shard_candidate_stored a g h
-  shard_candidate_unstored g = unstored tag first (λ (x : StoreAnswer). shard_candidate_stored x g h) h refl (λ n. refl) a t
+  shard_candidate_unstored g = unstored (λ (x : StoreAnswer). shard_candidate_stored x g h) h refl (λ n. refl) a t
 
 -- ===== nothing is left free =====
 

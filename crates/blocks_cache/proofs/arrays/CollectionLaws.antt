@@ -45,9 +45,8 @@ use Rattle.blocks_group.specs.layout.Group.{pack_group}
 use Rattle.blocks_group.specs.rules.Group.{GroupModel, below_boundary, collated_above, with_boundary, without_collated_above}
 use Rattle.cache_rules.proofs.SoundLaws.{parts}
 use Rattle.cache_rules.proofs.SoundSteps.{all_yes}
-use Rattle.cache_rules.proofs.TailLevels.{first}
 use Rattle.cache_rules.specs.Calls.{Effect, Request, collect, done, remove_next_collated, set_boundary, unlent}
-use Rattle.cache_rules.specs.Effects.{after, answered, bound_one, collect_shard, do_collect, effect, outcome_of, plain, remove_ids, remove_one}
+use Rattle.cache_rules.specs.Effects.{answered, bound_one, collect_shard, do_collect, effect, outcome_of, plain, remove_ids, remove_one}
 use Rattle.cache_rules.specs.Model.{Model, ShardModel, is_shard, on_shard, shard_before, with_ids_and_range, with_shards}
 use Rattle.cache_rules.specs.Refusals.{further, sound_model}
 

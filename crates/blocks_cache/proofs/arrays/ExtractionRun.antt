@@ -34,7 +34,6 @@ use Rattle.blocks_cache.specs.arrays.Extraction.{backwards, compact_shards, held
 use Rattle.blocks_cache.specs.arrays.Lookup.{block_place, cached_at, no_seqnos, shard_seqnos}
 use Rattle.blocks_cache.specs.arrays.Shards.{ident_at, shard_ident}
 use Rattle.blocks_cache.specs.layout.Cache.{pack_shard, sound_cache, view, view_shard, zero_shard_group}
-use Rattle.blocks_group.proofs.arrays.LoopLaws.{walk}
 use Rattle.blocks_group.proofs.layout.GroupLaws.{view_pack_mark}
 use Rattle.blocks_group.proofs.rules.GroupLaws.{previous_two}
 use Rattle.blocks_group.specs.layout.Group.{view_mark}
@@ -46,7 +45,6 @@ use Rattle.cache_rules.proofs.SoundLaws.{shard_parts}
 use Rattle.cache_rules.specs.Extraction.{Walk, extraction_of, first_walk, previous_cached, previous_in, starting_ids, starting_items, starts, take_found, take_id, take_one, take_times, top_id}
 use Rattle.cache_rules.specs.Model.{ShardModel, block_under, on_shard, refresh_shard, remove_block}
 use Rattle.cache_rules.specs.Refusals.{sound_shard_model}
-use Rattle.cache_rules.specs.TailIds.{waits}
 
 -- ===== lists =====
 

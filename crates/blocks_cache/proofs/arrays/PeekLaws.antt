@@ -42,8 +42,6 @@ use Rattle.blocks_group.proofs.arrays.QueryLaws.{first_applied_packed}
 use Rattle.blocks_group.proofs.layout.GroupLaws.{take_padded_each}
 use Rattle.blocks_group.specs.arrays.Group.{answered_master, when_found}
 use Rattle.blocks_group.specs.arrays.Queries.{first_applied_master}
-use Rattle.cache_rules.proofs.CountLaws.{places}
-use Rattle.cache_rules.proofs.SoundLaws.{whole}
 use Rattle.cache_rules.specs.Calls.{Row, View, peek, peeked, unlent}
 use Rattle.cache_rules.specs.Effects.{answered, effect, outcome_of, peek_entry}
 use Rattle.cache_rules.specs.Extraction.{seen_top, starting_items, starts, view_tops}

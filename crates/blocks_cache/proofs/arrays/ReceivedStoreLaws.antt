@@ -1,6 +1,6 @@
 -- The received store of the whole cache: each way through the code is a case of its definition, and on a sound cache it is the rule, packed.
 -- Assumes nothing.
-use Rattle.std.proofs.Common.{◌≡◌, ℕ, ◌<◌, ◌≤◌, Bool, true, false, not, ◌||◌, ltb, leb, ◌⊎◌, List, [], ◌∷◌, ◌++◌, length, sym, refl, ap, ◌∙◌, subst, ap₂, le-leb, leb-false, leb-true}
+use Rattle.std.proofs.Common.{◌≡◌, ℕ, ◌<◌, ◌≤◌, Bool, true, false, not, ◌||◌, ltb, leb, List, [], ◌∷◌, ◌++◌, length, sym, refl, ap, ◌∙◌, subst, ap₂, le-leb, leb-false, leb-true}
 use mathlib.Core.Option.{Option, none, some}
 use borrow.Author.Tests.{lt-leb}
 use Rattle.block_records.specs.declared.block_id.BlockId.{BlockId}
@@ -86,12 +86,12 @@ module _ (r : ReceivedBlock) (h : Cache) where
 
 -- ===== Synced or refused =====
 
-module _ (tag : StoreAnswer → ℕ) (first : (both mismatch : Bool) → tag (stored_answer both mismatch) ≡ 0) (h : Cache) (a : StoreAnswer) (t : (tag a ≡ 1) ⊎ (tag a ≡ 2)) where
+module _ (h : Cache) (a : StoreAnswer) (t : (both mismatch : Bool) → a ≡ stored_answer both mismatch → ⊥) where
   pub master_receipt_unstored : (r : ReceivedBlock) (g : MasterGroup) → nothing_stored a h ≡ master_receipt_stored r a g h
-  master_receipt_unstored r g = unstored tag first (λ (x : StoreAnswer). master_receipt_stored r x g h) h refl (λ n. refl) a t
+  master_receipt_unstored r g = unstored (λ (x : StoreAnswer). master_receipt_stored r x g h) h refl (λ n. refl) a t
 
   pub shard_receipt_unstored : (r : ReceivedBlock) (g : ShardGroup) → nothing_stored a h ≡ shard_receipt_stored r a g h
-  shard_receipt_unstored r g = unstored tag first (λ (x : StoreAnswer). shard_receipt_stored r x g h) h refl (λ n. refl) a t
+  shard_receipt_unstored r g = unstored (λ (x : StoreAnswer). shard_receipt_stored r x g h) h refl (λ n. refl) a t
 
 -- ===== nothing is left free =====
 

@@ -1,6 +1,6 @@
 -- What both stores of the whole cache share: the cases of an answer, the group of a shard as it is held, and the call's questions in two parts.
 -- Assumes nothing.
-use Rattle.std.proofs.Common.{◌≡◌, ℕ, ◌<◌, ◌≤◌, Bool, true, false, ◌||◌, ltb, ◌⊎◌, List, [], ◌++◌, length, get_or, sym, refl, ap, ◌∙◌, inl, inr, arith, get_or-take, leb-true}
+use Rattle.std.proofs.Common.{◌≡◌, ℕ, ◌<◌, ◌≤◌, Bool, true, false, ◌||◌, ltb, List, [], ◌++◌, length, get_or, sym, refl, ap, ◌∙◌, arith, get_or-take, leb-true}
 use mathlib.Core.Option.{Option, none, some}
 use Rattle.block_records.specs.declared.block_id.BlockId.{BlockId}
 use Rattle.block_records.specs.declared.block_id.ShardIdent.{ShardIdent}
@@ -47,14 +47,13 @@ use Rattle.cache_rules.specs.Refusals.{further, has_room, sound_model}
 
 -- ===== the cases of an answer =====
 
--- an answer whose tag is not the first: nothing is stored, by a definition that stores nothing where the answer is Synced or refused
-pub unstored : (tag : StoreAnswer → ℕ) → ((both mismatch : Bool) → tag (stored_answer both mismatch) ≡ 0) → (f : StoreAnswer → BlockCacheStoreResult) (h : Cache) →
+-- an answer that is not Stored: nothing is stored, by a definition that stores nothing where the answer is Synced or refused
+pub unstored : (f : StoreAnswer → BlockCacheStoreResult) (h : Cache) →
     nothing_stored synced_answer h ≡ f synced_answer → ((n : ℕ) → nothing_stored (refused_answer n) h ≡ f (refused_answer n)) →
-    (a : StoreAnswer) → (tag a ≡ 1) ⊎ (tag a ≡ 2) → nothing_stored a h ≡ f a
-unstored tag first f h synced-is refused-is (stored_answer both mismatch) (inl e) = absurd (omega (arith, first both mismatch))
-unstored tag first f h synced-is refused-is (stored_answer both mismatch) (inr e) = absurd (omega (arith, first both mismatch))
-unstored tag first f h synced-is refused-is synced_answer t = synced-is
-unstored tag first f h synced-is refused-is (refused_answer n) t = refused-is n
+    (a : StoreAnswer) → ((both mismatch : Bool) → a ≡ stored_answer both mismatch → ⊥) → nothing_stored a h ≡ f a
+unstored f h synced_is refused_is (stored_answer both mismatch) t = absurd (t both mismatch refl)
+unstored f h synced_is refused_is synced_answer t = synced_is
+unstored f h synced_is refused_is (refused_answer n) t = refused_is n
 
 -- ===== nothing is left free =====
 

@@ -9,7 +9,6 @@ use Rattle.block_records.specs.declared.entry.MasterBlock.{MasterBlock}
 use Rattle.block_records.specs.declared.place.Place.{Place}
 use Rattle.block_records.specs.declared.place.Place.TheVariants.{At as place_at, Vacant as vacant_at}
 use Rattle.blocks_cache.specs.declared.cache.Cache.{Cache}
-use Rattle.blocks_cache.specs.declared.cache.NewCacheAnswer.TheVariants.{Made as made}
 use Rattle.blocks_cache.specs.declared.extraction.ExtractAnswer.{ExtractAnswer}
 use Rattle.blocks_cache.specs.declared.extraction.ExtractAnswer.TheVariants.{AlreadyExtracted as already_answer, Extracted as extracted_answer, Popped as popped_extract, Refused as refused_extract}
 use Rattle.blocks_cache.specs.declared.extraction.ExtractRequest.{ExtractRequest}
@@ -37,7 +36,7 @@ use Rattle.blocks_cache.specs.arrays.Subgraphs.{ExtractsWithBlocks, PacksEffect,
 use Rattle.blocks_cache.specs.layout.Cache.{answered_on, call_on, pack, pack_outcome, pack_range, pack_shard, questions_on, sound_cache, view, view_range, zero_shard_group}
 use Rattle.blocks_group.proofs.arrays.GroupLaws.{master_at_packed, remove_master_packed}
 use Rattle.blocks_group.proofs.arrays.QueryLaws.{applied_above_packed, first_applied_packed}
-use Rattle.blocks_group.proofs.arrays.StoreLaws.{outcome, refresh_masters_packed}
+use Rattle.blocks_group.proofs.arrays.StoreLaws.{refresh_masters_packed}
 use Rattle.blocks_group.proofs.layout.GroupLaws.{take_padded_each}
 use Rattle.blocks_group.proofs.rules.GroupLaws.{group_parts}
 use Rattle.blocks_group.specs.arrays.Group.{answered_master, master_at, master_seqno, remove_master, when_found}
@@ -49,7 +48,7 @@ use Rattle.cache_rules.proofs.CountLaws.{places, records_suffice}
 use Rattle.cache_rules.proofs.SoundLaws.{parts}
 use Rattle.cache_rules.specs.Calls.{Effect, Extract, extracted, popped, refused, sync}
 use Rattle.cache_rules.specs.Effects.{at_front, effect, extract_of, extracted_model, masters_without, outcome_of, pop_entry, sync_entry}
-use Rattle.cache_rules.specs.Extraction.{Walk, extract, extraction_of, first_walk, previous_cached, starting_ids, take_found, take_id, take_one, take_times}
+use Rattle.cache_rules.specs.Extraction.{Walk, extraction_of, first_walk, previous_cached, starting_ids, take_found, take_id, take_one, take_times}
 use Rattle.cache_rules.specs.Model.{Model, Range, applied_above, block_under, first_applied, is_last, moved_start, refresh_shard, remove_block}
 use Rattle.cache_rules.specs.Refusals.{further}
 

@@ -53,7 +53,7 @@ use Rattle.cache_rules.proofs.SoundLaws.{parts}
 use Rattle.cache_rules.proofs.TailAnswer.{at_most_17, done_fits, ended, tails_same}
 use Rattle.cache_rules.proofs.TailLevels.{flat_map_append}
 use Rattle.cache_rules.proofs.TailRows.{fold_append, fold_rising}
-use Rattle.cache_rules.specs.Calls.{Call, Effect, TailRow, done, read_tail_ids, refused, tail_ids, unlent}
+use Rattle.cache_rules.specs.Calls.{Call, Effect, TailRow, read_tail_ids, refused, tail_ids, unlent}
 use Rattle.cache_rules.specs.Effects.{answered, effect, outcome_of, plain, tail_ids_entry}
 use Rattle.cache_rules.specs.Extraction.{previous_cached, top_id}
 use Rattle.cache_rules.specs.Model.{Model, ShardModel, block_under}

@@ -25,7 +25,6 @@ use Rattle.block_records.specs.rules.BlockId.{listed_prev_ids, same_id, same_sha
 use Rattle.block_records.specs.rules.Lists.{each, padded, pick}
 use Rattle.blocks_cache.specs.arrays.Lookup.{cached_block}
 use Rattle.blocks_cache.specs.arrays.TailIds.{cached_step, fingerprint, found_step, fresh_ids, has_number, hold_row, listed_tails, missing_step, no_step, put_row, replaces_last, replaces_row, row_at, row_before, row_below, row_held_at, row_place, set_row, step_of, two_ids, with_rows, zero_tail}
-use Rattle.cache_rules.proofs.TailLevels.{first}
 use Rattle.cache_rules.specs.TailIdsOnce.{knows, unknown_ids}
 
 -- the first where the test holds, else the second

@@ -26,12 +26,8 @@ use Rattle.block_records.specs.layout.Zeros.{zero_id, zero_prev_ids}
 use Rattle.block_records.specs.rules.BlockId.{listed_prev_ids, listed_tops}
 use Rattle.block_records.specs.rules.Lists.{each, fold, padded, pick}
 use Rattle.blocks_cache.specs.arrays.TailIds.{TailState, TailStep, block_tails, cached_row, fingerprint, first_state, fresh_ids, given_tails, hold_given, no_step, no_tails, pack_walk, read_tails, step_of, stepped, tails_at, take_queued, take_queued_at, take_tail_id, walk_state}
-use Rattle.blocks_group.proofs.arrays.LoopLaws.{walk}
 use Rattle.blocks_group.specs.arrays.Group.{answered_master, master_at, when_found}
-use Rattle.cache_rules.proofs.CountLaws.{places}
-use Rattle.cache_rules.proofs.TailLevels.{first}
 use Rattle.cache_rules.specs.Extraction.{top_id}
-use Rattle.cache_rules.specs.TailIds.{waits}
 use Rattle.cache_rules.specs.TailIdsOnce.{unknown_ids}
 
 -- ===== the ids that wait, in their array =====

@@ -35,7 +35,7 @@ use Rattle.blocks_group.specs.arrays.Store.{block_kind, with_block_data}
 use Rattle.blocks_group.specs.layout.Group.{pack_master_group}
 use Rattle.blocks_group.specs.rules.Group.{at_seqno, entry_before, has_seqno, with_entries}
 use Rattle.cache_rules.proofs.SoundLaws.{parts}
-use Rattle.cache_rules.specs.Calls.{Call, Validation, refused, store_validation, synced, unlent}
+use Rattle.cache_rules.specs.Calls.{Call, Validation, refused, store_validation, unlent}
 use Rattle.cache_rules.specs.Effects.{after, answered, effect, outcome_of, result_handle, result_status, result_weight, validate_entry, validate_kind, validated_kind}
 use Rattle.cache_rules.specs.Model.{Model}
 use Rattle.cache_rules.specs.Refusals.{further, sound_model}

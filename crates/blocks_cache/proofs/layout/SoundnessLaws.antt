@@ -3,7 +3,6 @@
 use Rattle.std.proofs.Common.{◌≡◌, ℕ, Bool, true, not, ◌&&◌, leb, List, [], ◌∷◌, length, take, drop, sym, refl, ap, ◌∙◌, ap₂, arith, le-leb}
 use Rattle.blocks_cache.specs.declared.cache.Cache.{Cache}
 use Rattle.blocks_cache.specs.declared.cache.ShardGroup.{ShardGroup}
-use Rattle.block_records.proofs.rules.BlockIdLaws.{id_order}
 use Rattle.block_records.proofs.rules.ListLaws.{every_weaken, length_each}
 use Rattle.block_records.proofs.rules.Tests.{and_intro, and_left, and_right, iff_same}
 use Rattle.block_records.specs.layout.Zeros.{is_zero_id}

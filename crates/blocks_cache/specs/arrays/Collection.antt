@@ -1,7 +1,7 @@
 -- RULES.md, Boundary and collection and Removal of collated blocks: what the code does to a cache as it is held, for every cache, sound or not, and
 -- what its answer says. On a packed cache this is the rule, packed (proofs/arrays/CollectionLaws).
 -- Assumes nothing.
-use Rattle.std.specs.Prelude.{ℕ, zero, suc, List, [], ◌∷◌, set, slice_index_or, slice_set}
+use Rattle.std.specs.Prelude.{ℕ, zero, suc, List, [], ◌∷◌, slice_index_or, slice_set}
 use Rattle.std.proofs.Math.Option.{Option, none, some}
 use Rattle.block_records.specs.declared.block_id.BlockIdShort.{BlockIdShort}
 use Rattle.block_records.specs.declared.block_id.ShardIdent.{ShardIdent}

@@ -26,7 +26,6 @@ use Rattle.blocks_cache.specs.arrays.MasterData.{drop_ids_below}
 use Rattle.blocks_cache.specs.layout.Cache.{HeldOutcome, call_on, pack, pack_range, view_range}
 use Rattle.blocks_group.specs.arrays.Group.{master_seqno}
 use Rattle.cache_rules.specs.Calls.{Answer, Call, Effect, Extract, Request, already_extracted, extracted, pop, popped, refused, sync}
-use Rattle.cache_rules.specs.Extraction.{extract}
 use Rattle.cache_rules.specs.Model.{moved_start}
 
 -- ===== what is handed out =====

@@ -1,5 +1,4 @@
 use mathlib.Core.Path.{◌≡◌}
-use Prim.Native.Nat.{◌-◌}
 use native.Mathlib.Omega.{arith}
 use lib.ListN.{length}
 use Rattle.block_records.proofs.arrays.ArrayLaws.{compact_end, compact_no, compact_start, compact_yes}

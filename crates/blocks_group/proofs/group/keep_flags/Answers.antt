@@ -1,6 +1,5 @@
 use mathlib.Core.Path.{◌∙◌, ◌≡◌, ap, sym}
 use mathlib.Core.Bool.{false}
-use Prim.Native.Nat.{◌-◌}
 use native.Mathlib.Omega.{arith}
 use lib.ListN.{length, length-set, take}
 use Rattle.block_records.proofs.arrays.ArrayLaws.{each_end, each_next, take_within, within_few}

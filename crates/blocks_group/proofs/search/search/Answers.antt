@@ -1,5 +1,4 @@
 use mathlib.Core.Path.{◌∙◌, refl, sym}
-use Prim.Native.Nat.{◌-◌}
 use borrow.Author.Rules.{rules}
 use Rattle.block_records.specs.arrays.Place.{place}
 use Rattle.blocks_group.proofs.arrays.SearchLaws.{seqno_place_end, seqno_place_found, seqno_place_next, seqno_place_vacant}

@@ -1,0 +1,6 @@
+use Rattle.blocks_cache.specs.layout.Cache.{same_shard_group, zero_shard_group}
+use Rattle.blocks_cache.proofs.soundness.is_zero_shard_group.Goals as goal
+
+pub returns : goal.returns
+unfolding same_shard_group zero_shard_group
+returns c = rw (c.is_zero_group-g.ensures, c.is_zero_shard-s.ensures)
