@@ -1,10 +1,10 @@
-//! Writes a random script: `scripts SEED CALLS [domain|full]`, or `scripts unsound SEED`.
+//! Writes a random script: `scripts SEED CALLS [domain|full|plain]`, or `scripts unsound SEED`.
 use std::io::Write;
 
 use reading::scripts::{Mode, Script, broken};
 
 fn usage() -> ! {
-    eprintln!("scripts SEED CALLS [domain|full] | scripts unsound SEED");
+    eprintln!("scripts SEED CALLS [domain|full|plain] | scripts unsound SEED");
     std::process::exit(2)
 }
 
@@ -20,12 +20,12 @@ fn main() {
         return output.write_all(&script.lines).expect("output");
     }
     let (seed, calls) = (number(args.first()), number(args.get(1)));
-    let mode = match args.get(2).map(String::as_str) {
-        None | Some("domain") => Mode::Domain,
-        Some("full") => Mode::Full,
+    let mut script = match args.get(2).map(String::as_str) {
+        None | Some("domain") => Script::new(seed, calls, Mode::Domain),
+        Some("full") => Script::new(seed, calls, Mode::Full),
+        Some("plain") => Script::plain(seed, calls),
         Some(_) => usage(),
     };
-    let mut script = Script::new(seed, calls, mode);
     while !script.is_done() {
         script.part();
         output.write_all(&script.lines).expect("output");
