@@ -1,6 +1,7 @@
 // The processor time.
 use replay_calls::state::{State, printed};
 use replay_text::output::{put_labelled, put_text};
+use std::time::CpuClock;
 
 // A number, or 0 where it is negative.
 fn not_negative(number: i64) -> u64 {
@@ -10,14 +11,22 @@ fn not_negative(number: i64) -> u64 {
     number as u64
 }
 
-// The processor time so far in microseconds; 0 where the system can't tell.
-pub fn microseconds() -> u64 {
-    not_negative(libc::clock())
+// The processor time so far in microseconds; -1 where the system can't tell.
+fn processor_time(clock: HostRuntime) -> i64 {
+    match clock.process_cpu_time() {
+        Ok(time) => i64::try_from(time.as_micros()).unwrap_or(i64::MAX),
+        Err(_) => -1,
+    }
+}
+
+// The same; 0 where the system can't tell.
+pub fn microseconds(clock: HostRuntime) -> u64 {
+    not_negative(processor_time(clock))
 }
 
 // The microseconds since then.
-pub fn since(start: u64) -> u64 {
-    let now = microseconds();
+pub fn since(clock: HostRuntime, start: u64) -> u64 {
+    let now = microseconds(clock);
     if now < start {
         return 0;
     }

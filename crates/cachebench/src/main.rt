@@ -10,10 +10,10 @@ mod times;
 use replay_text::output::flush;
 use run::run_script;
 
-fn main() {
+fn main(rt: HostRuntime) {
     let mut input = io::large_buffer();
     let mut line = [0u8; 8192];
     let mut out = io::large_buffer();
-    let at = run_script(&mut input, &mut line, &mut out);
+    let at = run_script(rt, &mut input, &mut line, &mut out);
     flush(&out, at);
 }

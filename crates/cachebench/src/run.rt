@@ -1,7 +1,6 @@
 // A script's run, line by line.
 use crate::timed::run_call;
 use blocks_cache::cache::{Cache, empty};
-use libc::STDIN_FILENO;
 use replay_calls::calls::run_change;
 use replay_calls::load::is_load;
 use replay_calls::raw::is_raw;
@@ -39,9 +38,16 @@ fn run_other(out: &mut [u8], cache: Cache, state: State, line: Line) -> Ran {
     Ran { cache, state: bad }
 }
 
-fn run_line(out: &mut [u8], cache: Cache, state: State, line: Line, times: u64) -> Ran {
+fn run_line(
+    clock: HostRuntime,
+    out: &mut [u8],
+    cache: Cache,
+    state: State,
+    line: Line,
+    times: u64,
+) -> Ran {
     if line.form <= forms::SOUND && line.form != forms::NEW {
-        return run_call(out, cache, state, line, times);
+        return run_call(clock, out, cache, state, line, times);
     }
     run_other(out, cache, state, line)
 }
@@ -57,7 +63,8 @@ fn times_after(line: Line) -> u64 {
 }
 
 // A proved loop has to end: it counts its turns down, from a number that no run uses up.
-pub fn run_script(input: &mut [u8], line: &mut [u8], out: &mut [u8]) -> usize {
+pub fn run_script(rt: HostRuntime, input: &mut [u8], line: &mut [u8], out: &mut [u8]) -> usize {
+    let mut script = rt.stdin();
     let new = empty(0);
     let mut cache = new.cache;
     let mut state = new_state();
@@ -65,9 +72,9 @@ pub fn run_script(input: &mut [u8], line: &mut [u8], out: &mut [u8]) -> usize {
     let mut times: u64 = 0;
     let mut turns = u64::MAX;
     while 0 < turns && goes_on(state, reader) {
-        reader = next_line(reader, STDIN_FILENO, input, line);
+        reader = next_line(reader, &mut script, input, line);
         let read = read_bytes(&line[..], reader.length, loading(state));
-        let ran = run_line(out, cache, counted(state), read, times);
+        let ran = run_line(rt, out, cache, counted(state), read, times);
         cache = ran.cache;
         state = ran.state;
         times = times_after(read);

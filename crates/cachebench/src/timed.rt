@@ -25,10 +25,17 @@ fn run_stores(cache: Cache, line: Line, times: u64) -> BlockCacheStoreResult {
     times::received(cache, received_of(line.values), times)
 }
 
-fn run_store(out: &mut [u8], before: Cache, state: State, line: Line, times: u64) -> Ran {
-    let start = microseconds();
+fn run_store(
+    clock: HostRuntime,
+    out: &mut [u8],
+    before: Cache,
+    state: State,
+    line: Line,
+    times: u64,
+) -> Ran {
+    let start = microseconds(clock);
     let stored = run_stores(before, line, times);
-    let spent = since(start);
+    let spent = since(clock, start);
     let answer = stored.answer;
     let range = stored.applied_mc_queue_range;
     let said = put_stored(out, state, answer, stored.last_collated_mc_block_id, range);
@@ -37,11 +44,18 @@ fn run_store(out: &mut [u8], before: Cache, state: State, line: Line, times: u64
     Ran { cache, state: next }
 }
 
-fn run_validation(out: &mut [u8], before: Cache, state: State, values: Values, times: u64) -> Ran {
+fn run_validation(
+    clock: HostRuntime,
+    out: &mut [u8],
+    before: Cache,
+    state: State,
+    values: Values,
+    times: u64,
+) -> Ran {
     let verdict = verdict_of(values);
-    let start = microseconds();
+    let start = microseconds(clock);
     let result = times::validated(before, values.id, verdict, times);
-    let spent = since(start);
+    let spent = since(clock, start);
     let answer = result.answer;
     let said = put_validated(out, state, answer);
     let cache = result.cache;
@@ -59,10 +73,17 @@ fn run_extracts(cache: Cache, line: Line, times: u64) -> ArrayExtract {
     times::synced(cache, values.id, times)
 }
 
-fn run_extraction(out: &mut [u8], before: Cache, state: State, line: Line, times: u64) -> Ran {
-    let start = microseconds();
+fn run_extraction(
+    clock: HostRuntime,
+    out: &mut [u8],
+    before: Cache,
+    state: State,
+    line: Line,
+    times: u64,
+) -> Ran {
+    let start = microseconds(clock);
     let got = run_extracts(before, line, times);
-    let spent = since(start);
+    let spent = since(clock, start);
     let said = put_extracted(out, state, got);
     let next = put_time(out, said, times, spent);
     let extract = got.extract;
@@ -83,10 +104,17 @@ fn run_changes(cache: Cache, line: Line, times: u64) -> CacheChange {
     times::removed(cache, values.keys, times)
 }
 
-fn run_change(out: &mut [u8], before: Cache, state: State, line: Line, times: u64) -> Ran {
-    let start = microseconds();
+fn run_change(
+    clock: HostRuntime,
+    out: &mut [u8],
+    before: Cache,
+    state: State,
+    line: Line,
+    times: u64,
+) -> Ran {
+    let start = microseconds(clock);
     let change = run_changes(before, line, times);
-    let spent = since(start);
+    let spent = since(clock, start);
     let answer = change.answer;
     let said = put_changed(out, state, answer);
     let cache = change.cache;
@@ -96,55 +124,83 @@ fn run_change(out: &mut [u8], before: Cache, state: State, line: Line, times: u6
 
 // ===== what leaves the cache as it is =====
 
-fn run_peek(out: &mut [u8], cache: Cache, state: State, values: Values, times: u64) -> State {
-    let start = microseconds();
+fn run_peek(
+    clock: HostRuntime,
+    out: &mut [u8],
+    cache: Cache,
+    state: State,
+    values: Values,
+    times: u64,
+) -> State {
+    let start = microseconds(clock);
     let peek = times::peeked(cache, low(values.numbers[values::NUMBER]), times);
-    let spent = since(start);
+    let spent = since(clock, start);
     let said = put_peek(out, state, peek);
     put_time(out, said, times, spent)
 }
 
-fn run_tail_ids(out: &mut [u8], cache: Cache, state: State, values: Values, times: u64) -> State {
-    let start = microseconds();
+fn run_tail_ids(
+    clock: HostRuntime,
+    out: &mut [u8],
+    cache: Cache,
+    state: State,
+    values: Values,
+    times: u64,
+) -> State {
+    let start = microseconds(clock);
     let ids = times::tail_ids(cache, values.key, times);
-    let spent = since(start);
+    let spent = since(clock, start);
     let answer = ids.answer;
     let said = put_tails(out, state, answer, ids.tails);
     put_time(out, said, times, spent)
 }
 
-fn run_sound(out: &mut [u8], cache: Cache, state: State, times: u64) -> State {
-    let start = microseconds();
+fn run_sound(clock: HostRuntime, out: &mut [u8], cache: Cache, state: State, times: u64) -> State {
+    let start = microseconds(clock);
     let sound = times::sound(cache, times);
-    let spent = since(start);
+    let spent = since(clock, start);
     let said = put_sound(out, state, sound);
     put_time(out, said, times, spent)
 }
 
-fn run_look(out: &mut [u8], cache: Cache, state: State, line: Line, times: u64) -> State {
+fn run_look(
+    clock: HostRuntime,
+    out: &mut [u8],
+    cache: Cache,
+    state: State,
+    line: Line,
+    times: u64,
+) -> State {
     if line.form == forms::PEEK {
-        return run_peek(out, cache, state, line.values, times);
+        return run_peek(clock, out, cache, state, line.values, times);
     }
     if line.form == forms::TAIL_IDS {
-        return run_tail_ids(out, cache, state, line.values, times);
+        return run_tail_ids(clock, out, cache, state, line.values, times);
     }
-    run_sound(out, cache, state, times)
+    run_sound(clock, out, cache, state, times)
 }
 
 // A call but `new`, made so often, once where that is 0.
-pub fn run_call(out: &mut [u8], cache: Cache, state: State, line: Line, times: u64) -> Ran {
+pub fn run_call(
+    clock: HostRuntime,
+    out: &mut [u8],
+    cache: Cache,
+    state: State,
+    line: Line,
+    times: u64,
+) -> Ran {
     if line.form <= forms::STORE_RECEIVED {
-        return run_store(out, cache, state, line, times);
+        return run_store(clock, out, cache, state, line, times);
     }
     if line.form == forms::VALIDATION {
-        return run_validation(out, cache, state, line.values, times);
+        return run_validation(clock, out, cache, state, line.values, times);
     }
     if line.form <= forms::REMOVE_NEXT {
-        return run_change(out, cache, state, line, times);
+        return run_change(clock, out, cache, state, line, times);
     }
     if line.form == forms::POP || line.form == forms::SYNC {
-        return run_extraction(out, cache, state, line, times);
+        return run_extraction(clock, out, cache, state, line, times);
     }
-    let next = run_look(out, cache, state, line, times);
+    let next = run_look(clock, out, cache, state, line, times);
     Ran { cache, state: next }
 }

@@ -17,12 +17,13 @@ use blocks_cache::tail_ids::{TailAnswer, TailIdsRow, TailRows};
 use blocks_cache::validation::ValidationAnswer;
 use blocks_group::store::StoreAnswer;
 
-// Where the next byte goes, the number of the line that is read, and how often its call is made and timed (0 for once, untimed).
+// Where the next byte goes, the number of the line that is read, how often its call is made and timed (0 for once, untimed), and what tells the time.
 #[derive(Clone, Copy)]
 pub struct Cursor {
     pub at: usize,
     pub line: u64,
     pub times: u64,
+    pub clock: HostRuntime,
 }
 
 // A line that isn't as it should be.

@@ -61,9 +61,9 @@ pub fn run_new(cache: Cache, line: &[u8], start: Scan, out: &mut [u8], cursor: C
 }
 
 fn collated(before: Cache, candidate: BlockCandidate, out: &mut [u8], cursor: Cursor) -> Ran {
-    let start = microseconds();
+    let start = microseconds(cursor.clock);
     let result = times::collated(before, candidate, cursor.times);
-    let spent = since(start);
+    let spent = since(cursor.clock, start);
     let answer = result.answer;
     let range = result.applied_mc_queue_range;
     let at = put_stored(
@@ -94,9 +94,9 @@ pub fn run_store_collated(
 }
 
 fn received(before: Cache, block: ReceivedBlock, out: &mut [u8], cursor: Cursor) -> Ran {
-    let start = microseconds();
+    let start = microseconds(cursor.clock);
     let result = times::received(before, block, cursor.times);
-    let spent = since(start);
+    let spent = since(cursor.clock, start);
     let answer = result.answer;
     let range = result.applied_mc_queue_range;
     let at = put_stored(
@@ -157,9 +157,9 @@ fn validate(
     out: &mut [u8],
     cursor: Cursor,
 ) -> Ran {
-    let start = microseconds();
+    let start = microseconds(cursor.clock);
     let result = times::validated(before, id, status, cursor.times);
-    let spent = since(start);
+    let spent = since(cursor.clock, start);
     let answer = result.answer;
     let at = put_validated(out, cursor.at, answer);
     let next = put_time(out, at, cursor.times, spent);
@@ -191,9 +191,9 @@ pub fn run_peek(cache: Cache, line: &[u8], start: Scan, out: &mut [u8], cursor: 
     if !is_good(end) {
         return put_bad(out, cursor, end);
     }
-    let start = microseconds();
+    let start = microseconds(cursor.clock);
     let peek = times::peeked(cache, read.value, cursor.times);
-    let spent = since(start);
+    let spent = since(cursor.clock, start);
     let at = put_peek(out, cursor.at, peek);
     put_time(out, at, cursor.times, spent)
 }
@@ -210,18 +210,18 @@ pub fn run_tail_ids(
     if !is_good(end) {
         return put_bad(out, cursor, end);
     }
-    let start = microseconds();
+    let start = microseconds(cursor.clock);
     let ids = times::tail_ids(cache, read.short, cursor.times);
-    let spent = since(start);
+    let spent = since(cursor.clock, start);
     let answer = ids.answer;
     let at = put_tails(out, cursor.at, answer, ids.tails);
     put_time(out, at, cursor.times, spent)
 }
 
 fn bound(before: Cache, keys: Keys, out: &mut [u8], cursor: Cursor) -> Ran {
-    let start = microseconds();
+    let start = microseconds(cursor.clock);
     let change = times::bounded(before, keys, cursor.times);
-    let spent = since(start);
+    let spent = since(cursor.clock, start);
     let answer = change.answer;
     let at = put_changed(out, cursor.at, answer);
     let next = put_time(out, at, cursor.times, spent);
@@ -239,9 +239,9 @@ pub fn run_boundary(cache: Cache, line: &[u8], start: Scan, out: &mut [u8], curs
 }
 
 fn remove(before: Cache, keys: Keys, out: &mut [u8], cursor: Cursor) -> Ran {
-    let start = microseconds();
+    let start = microseconds(cursor.clock);
     let change = times::removed(before, keys, cursor.times);
-    let spent = since(start);
+    let spent = since(cursor.clock, start);
     let answer = change.answer;
     let at = put_changed(out, cursor.at, answer);
     let next = put_time(out, at, cursor.times, spent);
@@ -265,9 +265,9 @@ pub fn run_remove_next(
 }
 
 pub fn run_collect(before: Cache, out: &mut [u8], cursor: Cursor) -> Ran {
-    let start = microseconds();
+    let start = microseconds(cursor.clock);
     let change = times::collected(before, cursor.times);
-    let spent = since(start);
+    let spent = since(cursor.clock, start);
     let answer = change.answer;
     let at = put_changed(out, cursor.at, answer);
     let next = put_time(out, at, cursor.times, spent);
@@ -283,9 +283,9 @@ fn put_sound(out: &mut [u8], at: usize, sound: bool) -> usize {
 }
 
 pub fn run_sound(cache: Cache, out: &mut [u8], cursor: Cursor) -> usize {
-    let start = microseconds();
+    let start = microseconds(cursor.clock);
     let sound = times::sound(cache, cursor.times);
-    let spent = since(start);
+    let spent = since(cursor.clock, start);
     let at = put_sound(out, cursor.at, sound);
     put_time(out, at, cursor.times, spent)
 }

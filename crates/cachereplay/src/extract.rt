@@ -44,9 +44,9 @@ fn answered(res: ArrayExtract, spent: u64, out: &mut [u8], cursor: Cursor) -> Ex
 }
 
 fn pop(cache: Cache, lent: Lent, from: u32, out: &mut [u8], cursor: Cursor) -> Extracted {
-    let start = microseconds();
+    let start = microseconds(cursor.clock);
     let result = times::popped(cache, lent, from, cursor.times);
-    let spent = since(start);
+    let spent = since(cursor.clock, start);
     answered(result, spent, out, cursor)
 }
 
@@ -68,9 +68,9 @@ pub fn run_pop(
 }
 
 fn sync(cache: Cache, lent: Lent, id: BlockId, out: &mut [u8], cursor: Cursor) -> Extracted {
-    let start = microseconds();
+    let start = microseconds(cursor.clock);
     let result = times::synced(cache, lent, id, cursor.times);
-    let spent = since(start);
+    let spent = since(cursor.clock, start);
     answered(result, spent, out, cursor)
 }
 

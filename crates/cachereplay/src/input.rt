@@ -2,7 +2,8 @@
 ghost use Rattle.io.specs.Counts.{IsPrefixLen};
 
 use crate::output::plus;
-use libc::STDIN_FILENO;
+use std::io::Read;
+use std::rt::Stdin;
 
 // What was read and not yet taken stands in a buffer between two places.
 #[derive(Clone, Copy)]
@@ -27,11 +28,15 @@ pub fn new_reader() -> Reader {
     }
 }
 
-fn read_some(input: &mut [u8]) -> usize
+// How many bytes were read; 0 where the input has ended or the read fails.
+fn read_some(stdin: Stdin, input: &mut [u8]) -> usize
     ensures { IsPrefixLen result input.new }
 {
-    let got = libc::read(STDIN_FILENO, input);
-    io::count(got, &input[..])
+    let mut script = stdin;
+    match script.read(input) {
+        Ok(n) => n,
+        Err(_) => 0,
+    }
 }
 
 // The place of the next line end, or the end of what was read.
@@ -76,8 +81,8 @@ fn take_part(reader: Reader, input: &[u8], line: &mut [u8]) -> Reader {
     }
 }
 
-fn refill(reader: Reader, input: &mut [u8]) -> Reader {
-    let n = read_some(input);
+fn refill(stdin: Stdin, reader: Reader, input: &mut [u8]) -> Reader {
+    let n = read_some(stdin, input);
     Reader {
         from: 0,
         to: n,
@@ -87,15 +92,15 @@ fn refill(reader: Reader, input: &mut [u8]) -> Reader {
     }
 }
 
-fn read_part(reader: Reader, input: &mut [u8], line: &mut [u8]) -> Reader {
+fn read_part(stdin: Stdin, reader: Reader, input: &mut [u8], line: &mut [u8]) -> Reader {
     if reader.from < reader.to {
         return take_part(reader, &input[..], line);
     }
-    refill(reader, input)
+    refill(stdin, reader, input)
 }
 
 // The next line; the last one may have no line end. A proved loop has to end: it counts its turns down, from a number that no run uses up.
-pub fn next_line(reader: Reader, input: &mut [u8], line: &mut [u8]) -> Reader {
+pub fn next_line(stdin: Stdin, reader: Reader, input: &mut [u8], line: &mut [u8]) -> Reader {
     let mut next = Reader {
         from: reader.from,
         to: reader.to,
@@ -105,7 +110,7 @@ pub fn next_line(reader: Reader, input: &mut [u8], line: &mut [u8]) -> Reader {
     };
     let mut turns = u64::MAX;
     while 0 < turns && !next.complete && !next.ended {
-        next = read_part(next, input, line);
+        next = read_part(stdin, next, input, line);
         turns -= 1;
     }
     next

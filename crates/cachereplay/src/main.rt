@@ -25,6 +25,7 @@ mod times;
 use input::{Reader, next_line};
 use output::flush;
 use replay::{Replay, State, new_replay, run_line, run_too_long};
+use std::rt::Stdin;
 
 // The number of the next line; where the next read may wait, the answers go out before it.
 fn next_state(state: State, out: &[u8], waits: bool) -> State {
@@ -60,27 +61,34 @@ fn with_reader(replay: Replay, reader: Reader) -> Replay {
     next
 }
 
-fn run_next(replay: Replay, input: &mut [u8], line: &mut [u8], out: &mut [u8]) -> Replay {
+fn run_next(
+    stdin: Stdin,
+    replay: Replay,
+    input: &mut [u8],
+    line: &mut [u8],
+    out: &mut [u8],
+) -> Replay {
     let start = counted(replay, replay.reader, &out[..]);
-    let reader = next_line(replay.reader, input, line);
+    let reader = next_line(stdin, replay.reader, input, line);
     let after = run_read(start, reader.length, &line[..], out);
     with_reader(after, reader)
 }
 
-fn run_all(input: &mut [u8], line: &mut [u8], out: &mut [u8]) -> State {
-    let mut replay = new_replay();
+fn run_all(rt: HostRuntime, input: &mut [u8], line: &mut [u8], out: &mut [u8]) -> State {
+    let stdin = rt.stdin();
+    let mut replay = new_replay(rt);
     let mut turns = u64::MAX;
     while 0 < turns && !replay.ended {
-        replay = run_next(replay, input, line, out);
+        replay = run_next(stdin, replay, input, line, out);
         turns -= 1;
     }
     replay.state
 }
 
-fn main() {
+fn main(rt: HostRuntime) {
     let mut input = io::large_buffer();
     let mut line = [0u8; 8192];
     let mut out = io::large_buffer();
-    let state = run_all(&mut input, &mut line, &mut out);
+    let state = run_all(rt, &mut input, &mut line, &mut out);
     flush(&out, state.at);
 }

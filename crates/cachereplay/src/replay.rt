@@ -24,6 +24,8 @@ pub struct State {
     pub places: usize,
     // how often the next call is made and timed; 0 for once, untimed
     pub times: u64,
+    // what tells the time
+    pub clock: HostRuntime,
     // between `load` and `end`
     pub loading: bool,
     // where a dump's entries go
@@ -51,13 +53,14 @@ struct Step {
     state: State,
 }
 
-pub fn new_replay() -> Replay {
+pub fn new_replay(clock: HostRuntime) -> Replay {
     let zero = zero_entry();
     let new = empty(0);
     let cache = new.cache;
     let state = State {
         places: 128,
         times: 0,
+        clock,
         loading: false,
         group: NO_GROUP,
         line: 0,
@@ -77,6 +80,7 @@ fn cursor(state: State) -> Cursor {
         at: state.at,
         line: state.line,
         times: state.times,
+        clock: state.clock,
     }
 }
 

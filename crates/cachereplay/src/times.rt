@@ -15,6 +15,7 @@ use blocks_cache::tail_ids::{TailIds, read_before_tail_ids_of_mc_block};
 use blocks_cache::validation::{
     ValidationResult, ValidationStatus, store_master_block_validation_result,
 };
+use std::time::CpuClock;
 
 // A number, or 0 where it is negative.
 fn not_negative(number: i64) -> u64 {
@@ -24,14 +25,22 @@ fn not_negative(number: i64) -> u64 {
     number as u64
 }
 
-// The processor time so far in microseconds; 0 where the system can't tell.
-pub fn microseconds() -> u64 {
-    not_negative(libc::clock())
+// The processor time so far in microseconds; -1 where the system can't tell.
+fn processor_time(clock: HostRuntime) -> i64 {
+    match clock.process_cpu_time() {
+        Ok(time) => i64::try_from(time.as_micros()).unwrap_or(i64::MAX),
+        Err(_) => -1,
+    }
+}
+
+// The same; 0 where the system can't tell.
+pub fn microseconds(clock: HostRuntime) -> u64 {
+    not_negative(processor_time(clock))
 }
 
 // The microseconds since then.
-pub fn since(start: u64) -> u64 {
-    let now = microseconds();
+pub fn since(clock: HostRuntime, start: u64) -> u64 {
+    let now = microseconds(clock);
     if now < start {
         return 0;
     }

@@ -1,7 +1,6 @@
 // The script, line by line.
-ghost use Rattle.io.specs.Counts.{IsPrefixLen};
-
 use crate::output::plus;
+use std::io::Read;
 
 // What was read and not yet taken stands in a buffer between two places.
 #[derive(Clone, Copy)]
@@ -16,12 +15,15 @@ pub struct Reader {
     pub ended: bool,
     // a read has failed
     pub failed: bool,
+    // the system's number of that failure; 0 where it gave none
+    pub error: i32,
 }
 
 #[derive(Clone, Copy)]
 pub struct Got {
     pub bytes: usize,
     pub failed: bool,
+    pub error: i32,
 }
 
 pub fn new_reader() -> Reader {
@@ -32,15 +34,22 @@ pub fn new_reader() -> Reader {
         complete: false,
         ended: false,
         failed: false,
+        error: 0,
     }
 }
 
-fn read_some(fd: i32, input: &mut [u8]) -> Got {
-    let got = libc::read(fd, input);
-    let bytes = io::count(got, &input[..]);
-    Got {
-        bytes,
-        failed: got < 0,
+fn read_some<R: Read>(source: &mut R, input: &mut [u8]) -> Got {
+    match source.read(input) {
+        Ok(bytes) => Got {
+            bytes,
+            failed: false,
+            error: 0,
+        },
+        Err(e) => Got {
+            bytes: 0,
+            failed: true,
+            error: e.raw_os_error().unwrap_or(0),
+        },
     }
 }
 
@@ -83,31 +92,37 @@ fn take_part(reader: Reader, input: &[u8], line: &mut [u8]) -> Reader {
     next
 }
 
-fn refill(reader: Reader, fd: i32, input: &mut [u8]) -> Reader {
-    let got = read_some(fd, input);
+fn refill<R: Read>(reader: Reader, source: &mut R, input: &mut [u8]) -> Reader {
+    let got = read_some(source, input);
     let mut next = reader;
     next.from = 0;
     next.to = got.bytes;
     next.ended = got.bytes == 0;
     next.failed = got.failed;
+    next.error = got.error;
     next
 }
 
-fn read_part(reader: Reader, fd: i32, input: &mut [u8], line: &mut [u8]) -> Reader {
+fn read_part<R: Read>(reader: Reader, source: &mut R, input: &mut [u8], line: &mut [u8]) -> Reader {
     if reader.from < reader.to {
         return take_part(reader, &input[..], line);
     }
-    refill(reader, fd, input)
+    refill(reader, source, input)
 }
 
 // The next line; the last one may have no line end. A proved loop has to end: it counts its turns down, from a number that no run uses up.
-pub fn next_line(reader: Reader, fd: i32, input: &mut [u8], line: &mut [u8]) -> Reader {
+pub fn next_line<R: Read>(
+    reader: Reader,
+    source: &mut R,
+    input: &mut [u8],
+    line: &mut [u8],
+) -> Reader {
     let mut next = reader;
     next.length = 0;
     next.complete = false;
     let mut turns = u64::MAX;
     while 0 < turns && !next.complete && !next.ended {
-        next = read_part(next, fd, input, line);
+        next = read_part(next, source, input, line);
         turns -= 1;
     }
     next

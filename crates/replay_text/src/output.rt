@@ -2,7 +2,8 @@
 ghost use Rattle.std.specs.Prelude.{◌≡◌};
 ghost use Rattle.replay_text.specs.Numbers.{minus, plus};
 
-use libc::STDOUT_FILENO;
+// The descriptor of standard output.
+const STDOUT_FILENO: i32 = 1;
 
 // Where nothing goes any more: a write has failed.
 pub const BROKEN: usize = usize::MAX;

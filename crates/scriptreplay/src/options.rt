@@ -1,18 +1,18 @@
 // What the program was started with.
-use libc::{STDIN_FILENO, STDOUT_FILENO};
+use std::env::{Env, FillError};
+use std::fs::File;
 
-// Where the script is read from; `runs` is false where there is nothing to read.
-#[derive(Clone, Copy)]
-pub struct Source {
-    pub fd: i32,
-    pub runs: bool,
-}
+// The descriptors of standard output and standard error.
+const STDOUT_FILENO: i32 = 1;
 
-fn nothing() -> Source {
-    Source {
-        fd: STDIN_FILENO,
-        runs: false,
-    }
+const STDERR_FILENO: i32 = 2;
+
+// Where the script is read from; `Nothing` where there is nothing to read.
+#[derive(Drop)]
+pub enum Source {
+    Nothing,
+    Input,
+    Script(File),
 }
 
 fn usage() -> Source {
@@ -25,44 +25,52 @@ Replays a script of calls on the block cache and prints each answer. FILE is the
 The line 'help' of a script prints the language; docs/REPLAY.md teaches it. Messages about files, and at the end of a run with refused calls or bad lines a count of them, go to standard error.
 ",
     );
-    nothing()
+    Source::Nothing
 }
 
 fn version() -> Source {
     io::write_all(STDOUT_FILENO, b"scriptreplay 0.2.0, replay language 2\n");
-    nothing()
+    Source::Nothing
 }
 
 fn too_many() -> Source {
     io::write_all(
-        libc::STDERR_FILENO,
+        STDERR_FILENO,
         b"scriptreplay: one FILE at most; --help says more\n",
     );
-    nothing()
+    Source::Nothing
 }
 
 fn is_text(argument: &[u8], text: &[u8]) -> bool {
     argument.len() == text.len() && replay_text::scan::begins(argument, 0, text)
 }
 
-fn standard_input() -> Source {
-    Source {
-        fd: STDIN_FILENO,
-        runs: true,
+// A path is text.
+fn no_text(path: &[u8]) -> Source {
+    io::write_all(STDERR_FILENO, b"scriptreplay: ");
+    io::write_all(STDERR_FILENO, path);
+    io::write_all(STDERR_FILENO, b": the path is not UTF-8\n");
+    Source::Nothing
+}
+
+fn open_text(rt: HostRuntime, path: &str) -> Source {
+    match File::open(&rt, path) {
+        Ok(file) => Source::Script(file),
+        Err(error) => {
+            let _ = eprintln!(rt; "scriptreplay: {path}: {error}");
+            Source::Nothing
+        }
     }
 }
 
-fn open(path: &[u8]) -> Source {
-    let fd = os::open_read(path);
-    if fd < 0 {
-        io::write_all(libc::STDERR_FILENO, b"scriptreplay: ");
-        os::fail(path);
-        return nothing();
+fn open(rt: HostRuntime, path: &[u8]) -> Source {
+    match str::from_utf8(path) {
+        Ok(text) => open_text(rt, text),
+        Err(_) => no_text(path),
     }
-    Source { fd, runs: true }
 }
 
-fn source_of(argument: &[u8]) -> Source {
+fn source_of(rt: HostRuntime, argument: &[u8]) -> Source {
     if is_text(argument, b"--help") {
         return usage();
     }
@@ -70,24 +78,36 @@ fn source_of(argument: &[u8]) -> Source {
         return version();
     }
     if is_text(argument, b"-") {
-        return standard_input();
+        return Source::Input;
     }
-    open(argument)
+    open(rt, argument)
+}
+
+// Argument 0 is the program's own name.
+fn has_argument(rt: HostRuntime, at: usize, path: &mut [u8]) -> bool {
+    match rt.arg(at, path) {
+        Ok(_) => true,
+        Err(FillError::NotPresent) => false,
+        Err(FillError::TooLong) => true,
+    }
+}
+
+fn too_long() -> Source {
+    io::write_all(
+        STDERR_FILENO,
+        b"scriptreplay: the argument: File name too long\n",
+    );
+    Source::Nothing
 }
 
 // An argument that is longer than a path can be is named by its error alone.
-pub fn open_source(path: &mut [u8]) -> Source {
-    let count = os::arg_count();
-    if 2 < count {
+pub fn open_source(rt: HostRuntime, path: &mut [u8]) -> Source {
+    if has_argument(rt, 2, path) {
         return too_many();
     }
-    if count < 2 {
-        return standard_input();
+    match rt.arg(1, path) {
+        Ok(n) => source_of(rt, &path[..n]),
+        Err(FillError::NotPresent) => Source::Input,
+        Err(FillError::TooLong) => too_long(),
     }
-    let n = os::arg(1, path);
-    if os::errno() != 0 {
-        os::fail(b"scriptreplay: the argument");
-        return nothing();
-    }
-    source_of(&path[..n])
 }

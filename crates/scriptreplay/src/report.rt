@@ -1,8 +1,11 @@
 // What is said at the end of a run, on standard error.
 use crate::run::Run;
-use libc::STDERR_FILENO;
 use replay_calls::state::{State, loading};
 use replay_text::output::{BROKEN, flush, put_labelled, put_text};
+use std::io::Error;
+
+// The descriptor of standard error.
+const STDERR_FILENO: i32 = 2;
 
 // What stands at the front of the buffer goes to standard error.
 fn say(out: &[u8], at: usize) {
@@ -37,14 +40,18 @@ fn report_counts(state: State, out: &mut [u8]) {
     say(&out[..], e);
 }
 
-pub fn report(run: Run, out: &mut [u8]) {
+pub fn report(rt: HostRuntime, run: Run, out: &mut [u8]) {
     let state = run.state;
     let reader = run.reader;
     if reader.failed {
-        os::fail(b"scriptreplay: the input can't be read");
+        let error = Error::from_raw_os_error(reader.error);
+        let _ = eprintln!(rt; "scriptreplay: the input can't be read: {error}");
     }
     if state.at == BROKEN || flush(&out[..], state.at) == BROKEN {
-        os::fail(b"scriptreplay: the output can't be written");
+        io::write_all(
+            STDERR_FILENO,
+            b"scriptreplay: the output can't be written\n",
+        );
     }
     report_load(state, out);
     report_counts(state, out);

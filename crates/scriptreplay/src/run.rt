@@ -14,6 +14,7 @@ use replay_text::output::{BROKEN, flush, plus};
 use replay_text::records::candidate_of;
 use replay_text::scan::{fail, start_at};
 use replay_text::{forms, messages};
+use std::io::Read;
 
 #[derive(Clone, Copy)]
 pub struct Run {
@@ -51,16 +52,16 @@ fn counted(state: State, reader: Reader) -> State {
 }
 
 // The next line is read, and where it is a call, its answer is led.
-fn next_read(
+fn next_read<R: Read>(
     out: &mut [u8],
     before: State,
     given: Reader,
-    fd: i32,
+    source: &mut R,
     input: &mut [u8],
     line: &mut [u8],
 ) -> Next {
     let ready = flushed(before, given, &out[..]);
-    let reader = next_line(given, fd, input, line);
+    let reader = next_line(given, source, input, line);
     let at = counted(ready, reader);
     let read = read_bytes(&line[..], reader.length, loading(at));
     let state = led(out, at, read.form);
@@ -84,7 +85,12 @@ fn run_other(out: &mut [u8], state: State, line: Line) -> State {
 
 // The cache and the places that are lent stand in this function alone, so a line that needs neither costs no copy of them. A collated store, the most frequent call, is made here;
 // the other calls have functions of their own, which keeps this one's stack small. A proved loop has to end: it counts its turns down, from a number that no run uses up.
-pub fn run_script(fd: i32, input: &mut [u8], line: &mut [u8], out: &mut [u8]) -> Run {
+pub fn run_script<R: Read>(
+    source: &mut R,
+    input: &mut [u8],
+    line: &mut [u8],
+    out: &mut [u8],
+) -> Run {
     let new = empty(0);
     let mut cache = new.cache;
     let zero = zero_entry();
@@ -94,7 +100,7 @@ pub fn run_script(fd: i32, input: &mut [u8], line: &mut [u8], out: &mut [u8]) ->
     let mut turns = u64::MAX;
     while 0 < turns && goes_on(state, reader) {
         turns -= 1;
-        let next = next_read(out, state, reader, fd, input, line);
+        let next = next_read(out, state, reader, source, input, line);
         let read = next.read;
         state = next.state;
         reader = next.reader;

@@ -1,0 +1,5 @@
+-- Safe and ending.
+use Rattle.cachereplay.proofs.times.synced.Given as goal
+
+abbrev pub decreases-loop-left : goal.decreases-loop-left
+decreases-loop-left l = l.left
