@@ -15,6 +15,10 @@ pub enum Source {
     Script(File),
 }
 
+fn nothing() -> Source {
+    Source::Nothing
+}
+
 fn usage() -> Source {
     io::write_all(
         STDOUT_FILENO,
@@ -25,12 +29,12 @@ Replays a script of calls on the block cache and prints each answer. FILE is the
 The line 'help' of a script prints the language; docs/REPLAY.md teaches it. Messages about files, and at the end of a run with refused calls or bad lines a count of them, go to standard error.
 ",
     );
-    Source::Nothing
+    nothing()
 }
 
 fn version() -> Source {
     io::write_all(STDOUT_FILENO, b"scriptreplay 0.2.0, replay language 2\n");
-    Source::Nothing
+    nothing()
 }
 
 fn too_many() -> Source {
@@ -38,11 +42,15 @@ fn too_many() -> Source {
         STDERR_FILENO,
         b"scriptreplay: one FILE at most; --help says more\n",
     );
-    Source::Nothing
+    nothing()
 }
 
 fn is_text(argument: &[u8], text: &[u8]) -> bool {
     argument.len() == text.len() && replay_text::scan::begins(argument, 0, text)
+}
+
+fn standard_input() -> Source {
+    Source::Input
 }
 
 // A path is text.
@@ -50,7 +58,7 @@ fn no_text(path: &[u8]) -> Source {
     io::write_all(STDERR_FILENO, b"scriptreplay: ");
     io::write_all(STDERR_FILENO, path);
     io::write_all(STDERR_FILENO, b": the path is not UTF-8\n");
-    Source::Nothing
+    nothing()
 }
 
 fn open_text(rt: HostRuntime, path: &str) -> Source {
@@ -58,7 +66,7 @@ fn open_text(rt: HostRuntime, path: &str) -> Source {
         Ok(file) => Source::Script(file),
         Err(error) => {
             let _ = eprintln!(rt; "scriptreplay: {path}: {error}");
-            Source::Nothing
+            nothing()
         }
     }
 }
@@ -78,7 +86,7 @@ fn source_of(rt: HostRuntime, argument: &[u8]) -> Source {
         return version();
     }
     if is_text(argument, b"-") {
-        return Source::Input;
+        return standard_input();
     }
     open(rt, argument)
 }
@@ -97,7 +105,7 @@ fn too_long() -> Source {
         STDERR_FILENO,
         b"scriptreplay: the argument: File name too long\n",
     );
-    Source::Nothing
+    nothing()
 }
 
 // An argument that is longer than a path can be is named by its error alone.
@@ -107,7 +115,7 @@ pub fn open_source(rt: HostRuntime, path: &mut [u8]) -> Source {
     }
     match rt.arg(1, path) {
         Ok(n) => source_of(rt, &path[..n]),
-        Err(FillError::NotPresent) => Source::Input,
+        Err(FillError::NotPresent) => standard_input(),
         Err(FillError::TooLong) => too_long(),
     }
 }
