@@ -26,7 +26,7 @@ fn usage() -> Source {
 Replays a script of calls on the block cache and prints each answer. FILE is the script; without it, or where it is -, standard input is read.
   --help       these lines
   --version    the version of the project and of the replay language
-The line 'help' of a script prints the language; docs/REPLAY.md teaches it. Messages about files, and at the end of a run with refused calls or bad lines a count of them, go to standard error.
+The line 'help' of a script prints the language; docs/SCRIPTREPLAY.md teaches it. Messages about files, and at the end of a run with refused calls or bad lines a count of them, go to standard error.
 ",
     );
     nothing()
