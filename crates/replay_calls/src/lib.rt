@@ -1,4 +1,4 @@
-// A line of the replay's language made on the cache and the slice that is lent, and its answer printed (docs/REPLAY.md).
+// A line of the replay's language made on the cache and the slice that is lent, and its answer printed (docs/SCRIPTREPLAY.md).
 #![tactic(auto)]
 
 pub mod answers;

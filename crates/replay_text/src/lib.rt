@@ -1,4 +1,4 @@
-// The replay's language: the lines that it has, their reading and their printing (docs/REPLAY.md).
+// The replay's language: the lines that it has, their reading and their printing (docs/SCRIPTREPLAY.md).
 #![tactic(auto)]
 
 pub mod explain;

@@ -1,4 +1,4 @@
-// Replays a script of calls on the block cache: docs/REPLAY.md.
+// Replays a script of calls on the block cache: docs/SCRIPTREPLAY.md.
 #![tactic(auto)]
 
 mod options;
