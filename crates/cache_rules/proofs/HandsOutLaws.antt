@@ -92,11 +92,11 @@ module _ (m : Model) (M : Entry) (ok : sound_model m ≡ true) where
   reached_left p (by_previous i e q r c n u) = seen_gone p (at_end.gone_seen (key i) e (cached_lookup m ok (key i) e c) (reached_left i r) n p u)
 
   pub others_stay : (k : BlockIdShort) → ((i : BlockId) → Reached m M i → key i ≢ k) → block_under (extraction_of M m).shards k ≡ block_under m.shards k
-  others_stay k none-reached = by (at_end.kept k)
+  others_stay k none_reached = by (at_end.kept k)
     where
       by : Kept m.shards M.id.seqno (Reached m M) ids (extraction_of M m).shards k → block_under (extraction_of M m).shards k ≡ block_under m.shards k
       by (inl s) = s
-      by (inr g) = absurd (none-reached g.0 g.1 g.2)
+      by (inr g) = absurd (none_reached g.0 g.1 g.2)
 
   -- a block that joined, and what is handed out of it
   joined_joins : (e : Entry) → Memᴰ e (extraction_of M m).joined → Joins m M (pack_entry e)

@@ -43,10 +43,10 @@ use Rattle.cache_rules.specs.Refusals.{further, has_id_room, has_room, inserts_o
 side_only : (a b : Bool) → a ≡ true → not (a && b) ≡ not b
 side_only a b t = rw t
 
-module _ (c : BlockCandidate) (h : Cache) (s : MasterStore) (is_IsStore : s ≡ store_collated_master c h.masters) where
+module _ (c : BlockCandidate) (h : Cache) (s : MasterStore) (its_store : s ≡ store_collated_master c h.masters) where
   pub master_candidate_is : master_candidate_stored c s.answer s.masters h ≡ store_master_candidate c h
   unfolding store_master_candidate
-  master_candidate_is = ap (λ (x : MasterStore). master_candidate_stored c x.answer x.masters h) is_IsStore
+  master_candidate_is = ap (λ (x : MasterStore). master_candidate_stored c x.answer x.masters h) its_store
 
 module _ (c : BlockCandidate) (h : Cache) (a : StoreAnswer) (g : MasterGroup) (both mismatch : Bool) (is_stored : a ≡ stored_answer both mismatch) where
   pub master_candidate_kept : mismatch ≡ true → stored_in (stored_answer both mismatch) h ≡ master_candidate_stored c a g h
@@ -59,11 +59,11 @@ module _ (c : BlockCandidate) (h : Cache) (a : StoreAnswer) (g : MasterGroup) (b
       k ≡ with_masters_and_data g d h → stored_in (stored_answer both mismatch) k ≡ master_candidate_stored c a g h
   master_candidate_put t u d k e f = rw (is_stored, t, u, f, e)
 
-module _ (c : BlockCandidate) (h : Cache) (s : ShardIdent) (its_shard : s ≡ id_shard c.block_id) (x : ShardHeld) (is_held_lem : x ≡ shard_held s h.shard_count h.shards) where
+module _ (c : BlockCandidate) (h : Cache) (s : ShardIdent) (its_shard : s ≡ id_shard c.block_id) (x : ShardHeld) (its_held : x ≡ shard_held s h.shard_count h.shards) where
   held_is : shard_candidate_in c x h ≡ store_shard_candidate c h
   unfolding store_shard_candidate
   held_is =
-      ap (λ (y : ShardHeld). shard_candidate_in c y h) is_held_lem
+      ap (λ (y : ShardHeld). shard_candidate_in c y h) its_held
       ∙ ap (λ (z : ShardIdent). shard_candidate_in c (shard_held z h.shard_count h.shards) h) its_shard
 
   pub shard_candidate_full : x.room ≡ false → nothing_stored (refused_answer 8) h ≡ store_shard_candidate c h
@@ -195,8 +195,8 @@ module _ (c : BlockCandidate) (m : Model) (ok : sound_model m ≡ true) where
     master_stored : (both mismatch : Bool) (x : Option Entry) → (mismatch ≡ true → x ≡ none) →
         store_outcome (master_candidate_stored c (stored_answer both mismatch) (pack_master_group (with_change x m.masters)) (pack m))
         ≡ by_nine (mismatch || placed) (record { change = x; both = both; mismatch = mismatch })
-    master_stored both true x none-there = rw (none-there refl, side) (stored_packed both true m)
-    master_stored both false x none-there =
+    master_stored both true x none_there = rw (none_there refl, side) (stored_packed both true m)
+    master_stored both false x none_there =
         on placed
         (λ u. rw (has_place_for_id_packed i.seqno m, u)
         (ap (λ (d : MasterData). store_outcome (stored_in (stored_answer both false) (with_masters_and_data (pack_master_group (with_change x m.masters)) d (pack m)))) (ids_collated u)

@@ -37,21 +37,21 @@ use Rattle.cache_rules.specs.Refusals.{further, has_room, is_synced, not_before_
 
 -- ===== the ways through the code =====
 
-module _ (r : ReceivedBlock) (h : Cache) (s : MasterStore) (is_IsStore : s ≡ store_received_master h.zerostate_mc_seqno r h.masters) where
+module _ (r : ReceivedBlock) (h : Cache) (s : MasterStore) (its_store : s ≡ store_received_master h.zerostate_mc_seqno r h.masters) where
   pub master_receipt_is : master_receipt_stored r s.answer s.masters h ≡ store_master_receipt r h
   unfolding store_master_receipt
-  master_receipt_is = ap (λ (x : MasterStore). master_receipt_stored r x.answer x.masters h) is_IsStore
+  master_receipt_is = ap (λ (x : MasterStore). master_receipt_stored r x.answer x.masters h) its_store
 
 pub master_receipt_put : (r : ReceivedBlock) (h : Cache) (a : StoreAnswer) (g : MasterGroup) (both mismatch : Bool) → a ≡ stored_answer both mismatch → (d e : MasterData) (k : Cache) →
     d ≡ ids_after mismatch r.block_id.seqno h.«data» → e ≡ range_end_moved r.block_id.seqno d → k ≡ with_masters_and_data g e h →
     stored_in (stored_answer both mismatch) k ≡ master_receipt_stored r a g h
-master_receipt_put r h a g both mismatch is_stored d e k is-d is-e is-k = rw (is_stored, is-k, is-e, is-d)
+master_receipt_put r h a g both mismatch is_stored d e k is_d is_e is_k = rw (is_stored, is_k, is_e, is_d)
 
-module _ (r : ReceivedBlock) (h : Cache) (s : ShardIdent) (its_shard : s ≡ id_shard r.block_id) (x : ShardHeld) (is_held_lem : x ≡ shard_held s h.shard_count h.shards) where
+module _ (r : ReceivedBlock) (h : Cache) (s : ShardIdent) (its_shard : s ≡ id_shard r.block_id) (x : ShardHeld) (its_held : x ≡ shard_held s h.shard_count h.shards) where
   held_is : shard_receipt_in r x h ≡ store_shard_receipt r h
   unfolding store_shard_receipt
   held_is =
-      ap (λ (y : ShardHeld). shard_receipt_in r y h) is_held_lem
+      ap (λ (y : ShardHeld). shard_receipt_in r y h) its_held
       ∙ ap (λ (z : ShardIdent). shard_receipt_in r (shard_held z h.shard_count h.shards) h) its_shard
 
   pub shard_receipt_full : x.room ≡ false → nothing_stored (refused_answer 8) h ≡ store_shard_receipt r h
@@ -64,7 +64,7 @@ module _ (r : ReceivedBlock) (h : Cache) (s : ShardIdent) (its_shard : s ≡ id_
 
 pub shard_receipt_put : (r : ReceivedBlock) (h : Cache) (a : StoreAnswer) (g : ShardGroup) (both mismatch : Bool) → a ≡ stored_answer both mismatch → (d : MasterData) (k : Cache) →
     d ≡ ids_after mismatch r.ref_block_id.seqno h.«data» → k ≡ with_shard_group g d h → stored_in (stored_answer both mismatch) k ≡ shard_receipt_stored r a g h
-shard_receipt_put r h a g both mismatch is_stored d k is-d is-k = rw (is_stored, is-k, is-d)
+shard_receipt_put r h a g both mismatch is_stored d k is_d is_k = rw (is_stored, is_k, is_d)
 
 module _ (r : ReceivedBlock) (h : Cache) where
   pub receipt_before : r.ref_block_id.seqno < h.zerostate_mc_seqno → nothing_stored (refused_answer 5) h ≡ store_receipt r h

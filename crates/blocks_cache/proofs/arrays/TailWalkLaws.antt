@@ -224,9 +224,9 @@ module _ (c : Cache) (m : ℕ) (items : List TopBlock) (listed : ℕ) (tails₀ 
           p ≡ fingerprint (get_or fresh.ids 0 d) → q ≡ fingerprint (get_or fresh.ids 1 e) →
           TopsTaken (i + 1) t (set (set ids count (get_or fresh.ids 0 d)) (count + 1) (get_or fresh.ids 1 e)) (set (set prints count p) (count + 1) q) (count + fresh.count)
       unfolding waits_more
-      tops_next s of_step t of_rows fresh of_fresh two d e p q of-p of-q =
+      tops_next s of_step t of_rows fresh of_fresh two d e p q of_p of_q =
           record {
-            waits = waits_more c m true tails ids prints count w (get_or items i x).block_id s of_step fresh of_fresh two d e p q of-p of-q;
+            waits = waits_more c m true tails ids prints count w (get_or items i x).block_id s of_step fresh of_fresh two d e p q of_p of_q;
             rest = top_taken (record { tails = t; known = w.known ++ fresh_ids w.known (listed_prev_ids s.queued) }) (taken_is c m true tails ids prints count w (get_or items i x).block_id s of_step t of_rows);
           }
 
@@ -293,9 +293,9 @@ module _ (c : Cache) (m : ℕ) (walk : TailWalk) where
           p ≡ fingerprint (get_or fresh.ids 0 d) → q ≡ fingerprint (get_or fresh.ids 1 e) →
           QueueTaken (j + 1) t (set (set ids count (get_or fresh.ids 0 d)) (count + 1) (get_or fresh.ids 1 e)) (set (set prints count p) (count + 1) q) (count + fresh.count)
       unfolding waits_more
-      queue_next s of_step t of_rows fresh of_fresh two d e p q of-p of-q =
+      queue_next s of_step t of_rows fresh of_fresh two d e p q of_p of_q =
           record {
-            waits = waits_more c m false tails ids prints count v.waits (get_or ids j x) s of_step fresh of_fresh two d e p q of-p of-q;
+            waits = waits_more c m false tails ids prints count v.waits (get_or ids j x) s of_step fresh of_fresh two d e p q of_p of_q;
             bound = omega arith;
             rest = id_taken (record { tails = t; known = v.waits.known ++ fresh_ids v.waits.known (listed_prev_ids s.queued) }) (taken_is c m false tails ids prints count v.waits (get_or ids j x) s of_step t of_rows);
           }

@@ -155,7 +155,7 @@ hold_given s t = pick s.given (hold_row s.row t) t
 
 -- one id or the other, both or none
 abbrev pub two_ids : BlockId → Bool → BlockId → Bool → List BlockId
-two_ids a takes-a b takes-b = pick takes-a (a ∷ pick takes-b (b ∷ []) []) (pick takes-b (b ∷ []) [])
+two_ids a takes_a b takes_b = pick takes_a (a ∷ pick takes_b (b ∷ []) []) (pick takes_b (b ∷ []) [])
 
 -- those that are not known yet, each once; none of them where known and new together are more than 256
 unfoldable pub fresh_ids : List BlockId → List BlockId → List BlockId

@@ -195,11 +195,11 @@ module _ (zerostate : ℕ) (r : ReceivedBlock) (g : Group) where
       pub received_block_put : m.changed ≡ true → (p q : Group) → p ≡ put_entry m.block.entry g → q ≡ refresh_group r.block_id.seqno p →
           ◌≡◌ {A = GroupStore} (record { answer = m.answer; group = q }) (store_received_block zerostate r g)
       unfolding store_received_block
-      received_block_put h p q was-put fresh =
+      received_block_put h p q was_put fresh =
           let s = received_step zerostate r (has_place g) (block_at r.block_id.seqno g) in
           let e = step_answer at_received s m received_block_step in
           let k =
-          fresh ∙ ap (refresh_group r.block_id.seqno) was-put
+          fresh ∙ ap (refresh_group r.block_id.seqno) was_put
           ∙ ap (λ (o : Option MasterBlock). put_refreshed r.block_id.seqno o g) (sym (step_changed at_received s m received_block_step h)) in
           rw unknown (λ i. record { answer = e i; group = k i })
 
@@ -253,11 +253,11 @@ module _ (zerostate : ℕ) (r : ReceivedBlock) (g : MasterGroup) where
     pub received_master_put : m.changed ≡ true → (p q : MasterGroup) → p ≡ put_master m.block g → q ≡ refresh_masters r.block_id.seqno p →
         ◌≡◌ {A = MasterStore} (record { answer = m.answer; masters = q }) (store_received_master zerostate r g)
     unfolding store_received_master
-    received_master_put h p q was-put fresh =
+    received_master_put h p q was_put fresh =
         let s = received_step zerostate r (has_place g.group) (answered_master (master_at r.block_id.seqno g)) in
         let e = step_answer a.block s m received_master_step in
         let k =
-        fresh ∙ ap (refresh_masters r.block_id.seqno) was-put
+        fresh ∙ ap (refresh_masters r.block_id.seqno) was_put
         ∙ ap (λ (o : Option MasterBlock). put_master_refreshed r.block_id.seqno o g) (sym (step_changed a.block s m received_master_step h)) in
         rw unknown (λ i. record { answer = e i; masters = k i })
 

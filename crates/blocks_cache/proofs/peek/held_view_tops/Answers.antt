@@ -13,10 +13,10 @@ returns-in_default c =
     view_stop c.args.seqno c.args.cache c.held_starting_items-starting.result c.args.tops c.held_starting_items-starting.ensures c.loop-count.count c.loop-count.rows c.loop-count.invariant _ c.loop-count-test.true (row_absent c.args.cache c.requires c.args.seqno _ c.shard_idents-idents.result c.shard_seqnos-seqnos.result c.shard_idents-idents.ensures c.shard_seqnos-seqnos.ensures (sym c.block_place.ensures ∙ c.in_default.is)) _ c.ended_at.ensures
 
 pub offset_bounds-cache-at : goal.offset_bounds-cache-at
-offset_bounds-cache-at c = omega (arith, (let group-place : c.in-At.at < 8 = cached_group_within c.args.cache c.requires _ c.shard_idents-idents.result c.shard_seqnos-seqnos.result c.shard_idents-idents.ensures c.shard_seqnos-seqnos.ensures _ _ (sym c.block_place.ensures ∙ c.in-At.is) in group-place))
+offset_bounds-cache-at c = omega (arith, (let group_place : c.in-At.at < 8 = cached_group_within c.args.cache c.requires _ c.shard_idents-idents.result c.shard_seqnos-seqnos.result c.shard_idents-idents.ensures c.shard_seqnos-seqnos.ensures _ _ (sym c.block_place.ensures ∙ c.in-At.is) in group_place))
 
 pub bounds-cache-at : goal.bounds-cache-at
-bounds-cache-at c = omega (arith, (let group-place : c.in-At.at < 8 = cached_group_within c.args.cache c.requires _ c.shard_idents-idents.result c.shard_seqnos-seqnos.result c.shard_idents-idents.ensures c.shard_seqnos-seqnos.ensures _ _ (sym c.block_place.ensures ∙ c.in-At.is) in group-place))
+bounds-cache-at c = omega (arith, (let group_place : c.in-At.at < 8 = cached_group_within c.args.cache c.requires _ c.shard_idents-idents.result c.shard_seqnos-seqnos.result c.shard_idents-idents.ensures c.shard_seqnos-seqnos.ensures _ _ (sym c.block_place.ensures ∙ c.in-At.is) in group_place))
 
 pub offset_bounds-group-place : goal.offset_bounds-group-place
 offset_bounds-group-place c = omega (arith, (let entry_place : c.in-At.place < 16 = cached_entry_within c.args.cache c.requires _ c.shard_idents-idents.result c.shard_seqnos-seqnos.result c.shard_idents-idents.ensures c.shard_seqnos-seqnos.ensures _ _ (sym c.block_place.ensures ∙ c.in-At.is) in entry_place))

@@ -37,10 +37,10 @@ loop-j-preserved-in_default c = (
 )
 
 pub offset_bounds-cache-at : goal.offset_bounds-cache-at
-offset_bounds-cache-at c = omega (arith, (let group-place : c.in-At.at < 8 = cached_group_within c.args.cache c.requires.0 _ _ _ c.shard_idents-idents.ensures c.shard_seqnos-seqnos.ensures _ _ (sym c.block_place.ensures ∙ c.in-At.is) in group-place))
+offset_bounds-cache-at c = omega (arith, (let group_place : c.in-At.at < 8 = cached_group_within c.args.cache c.requires.0 _ _ _ c.shard_idents-idents.ensures c.shard_seqnos-seqnos.ensures _ _ (sym c.block_place.ensures ∙ c.in-At.is) in group_place))
 
 pub bounds-cache-at : goal.bounds-cache-at
-bounds-cache-at c = omega (arith, (let group-place : c.in-At.at < 8 = cached_group_within c.args.cache c.requires.0 _ _ _ c.shard_idents-idents.ensures c.shard_seqnos-seqnos.ensures _ _ (sym c.block_place.ensures ∙ c.in-At.is) in group-place))
+bounds-cache-at c = omega (arith, (let group_place : c.in-At.at < 8 = cached_group_within c.args.cache c.requires.0 _ _ _ c.shard_idents-idents.ensures c.shard_seqnos-seqnos.ensures _ _ (sym c.block_place.ensures ∙ c.in-At.is) in group_place))
 
 pub offset_bounds-group-place : goal.offset_bounds-group-place
 offset_bounds-group-place c = omega (arith, (let entry_place : c.in-At.place < 16 = cached_entry_within c.args.cache c.requires.0 _ _ _ c.shard_idents-idents.ensures c.shard_seqnos-seqnos.ensures _ _ (sym c.block_place.ensures ∙ c.in-At.is) in entry_place))

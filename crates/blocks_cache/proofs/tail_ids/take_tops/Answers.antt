@@ -13,20 +13,20 @@ pub loop-i-init : goal.loop-i-init
 loop-i-init c = tops_start _ _ _ _ _ _ c.zero_id-zero.ensures
 
 pub offset_bounds-tops-i : goal.offset_bounds-tops-i
-offset_bounds-tops-i c = omega (arith, (let few-items : c.listed_count-listed.result ≤ 8 = rw c.listed_count-listed.ensures (within_few 8 c.args.tops.count) in few-items), c.loop-i-test.true)
+offset_bounds-tops-i c = omega (arith, (let few_items : c.listed_count-listed.result ≤ 8 = rw c.listed_count-listed.ensures (within_few 8 c.args.tops.count) in few_items), c.loop-i-test.true)
 
 pub bounds-tops-i : goal.bounds-tops-i
-bounds-tops-i c = omega (arith, (let few-items : c.listed_count-listed.result ≤ 8 = rw c.listed_count-listed.ensures (within_few 8 c.args.tops.count) in few-items), c.loop-i-test.true)
+bounds-tops-i c = omega (arith, (let few_items : c.listed_count-listed.result ≤ 8 = rw c.listed_count-listed.ensures (within_few 8 c.args.tops.count) in few_items), c.loop-i-test.true)
 
 pub overflow_add-i : goal.overflow_add-i
-overflow_add-i c = omega (arith, (let few-items : c.listed_count-listed.result ≤ 8 = rw c.listed_count-listed.ensures (within_few 8 c.args.tops.count) in few-items), c.loop-i-test.true)
+overflow_add-i c = omega (arith, (let few_items : c.listed_count-listed.result ≤ 8 = rw c.listed_count-listed.ensures (within_few 8 c.args.tops.count) in few_items), c.loop-i-test.true)
 
 pub loop-i-smaller-then-id-eq0 : goal.loop-i-smaller-then-id-eq0
 loop-i-smaller-then-id-eq0 c = omega (arith, c.loop-i-test.true)
 
 pub loop-i-preserved-then-id-eq0 : goal.loop-i-preserved-then-id-eq0
 loop-i-preserved-then-id-eq0 c =
-    tops_unqueued c.args.cache c.args.mc_seqno c.args.tops.items _ _ c.loop-i.i c.loop-i.tails c.loop-i.ids c.loop-i.fingerprints c.loop-i.count c.loop-i.invariant _ (omega (arith, (let few-items : c.listed_count-listed.result ≤ 8 = rw c.listed_count-listed.ensures (within_few 8 c.args.tops.count) in few-items), (let long : length c.args.tops.items ≡ 8 = search (rules, length_mapped) in long), c.loop-i-test.true)) c.loop-i-test.true
+    tops_unqueued c.args.cache c.args.mc_seqno c.args.tops.items _ _ c.loop-i.i c.loop-i.tails c.loop-i.ids c.loop-i.fingerprints c.loop-i.count c.loop-i.invariant _ (omega (arith, (let few_items : c.listed_count-listed.result ≤ 8 = rw c.listed_count-listed.ensures (within_few 8 c.args.tops.count) in few_items), (let long : length c.args.tops.items ≡ 8 = search (rules, length_mapped) in long), c.loop-i-test.true)) c.loop-i-test.true
     _ (step_skipped c.args.cache c.args.mc_seqno true _ c.if-id-eq0.true) refl _ refl
 
 pub loop-i-smaller-in_default : goal.loop-i-smaller-in_default
@@ -34,14 +34,14 @@ loop-i-smaller-in_default c = omega (arith, c.loop-i-test.true)
 
 pub loop-i-preserved-in_default : goal.loop-i-preserved-in_default
 loop-i-preserved-in_default c =
-    tops_unqueued c.args.cache c.args.mc_seqno c.args.tops.items _ _ c.loop-i.i c.loop-i.tails c.loop-i.ids c.loop-i.fingerprints c.loop-i.count c.loop-i.invariant _ (omega (arith, (let few-items : c.listed_count-listed.result ≤ 8 = rw c.listed_count-listed.ensures (within_few 8 c.args.tops.count) in few-items), (let long : length c.args.tops.items ≡ 8 = search (rules, length_mapped) in long), c.loop-i-test.true)) c.loop-i-test.true
+    tops_unqueued c.args.cache c.args.mc_seqno c.args.tops.items _ _ c.loop-i.i c.loop-i.tails c.loop-i.ids c.loop-i.fingerprints c.loop-i.count c.loop-i.invariant _ (omega (arith, (let few_items : c.listed_count-listed.result ≤ 8 = rw c.listed_count-listed.ensures (within_few 8 c.args.tops.count) in few_items), (let long : length c.args.tops.items ≡ 8 = search (rules, length_mapped) in long), c.loop-i-test.true)) c.loop-i-test.true
     _ (step_missing c.args.cache c.args.mc_seqno true _ c.if-id-eq0.false (not_cached c.args.cache c.requires _ _ _ c.shard_idents-idents.ensures c.shard_seqnos-seqnos.ensures (sym c.block_place.ensures ∙ c.in_default.is)) refl) refl _ (c.hold_row-tails.ensures ∙ ap (λ r. hold_row r c.loop-i.tails) c.missing_row-row.ensures)
 
 pub offset_bounds-cache-at : goal.offset_bounds-cache-at
-offset_bounds-cache-at c = omega (arith, (let group-place : c.in-At.at < 8 = cached_group_within c.args.cache c.requires _ _ _ c.shard_idents-idents.ensures c.shard_seqnos-seqnos.ensures _ _ (sym c.block_place.ensures ∙ c.in-At.is) in group-place))
+offset_bounds-cache-at c = omega (arith, (let group_place : c.in-At.at < 8 = cached_group_within c.args.cache c.requires _ _ _ c.shard_idents-idents.ensures c.shard_seqnos-seqnos.ensures _ _ (sym c.block_place.ensures ∙ c.in-At.is) in group_place))
 
 pub bounds-cache-at : goal.bounds-cache-at
-bounds-cache-at c = omega (arith, (let group-place : c.in-At.at < 8 = cached_group_within c.args.cache c.requires _ _ _ c.shard_idents-idents.ensures c.shard_seqnos-seqnos.ensures _ _ (sym c.block_place.ensures ∙ c.in-At.is) in group-place))
+bounds-cache-at c = omega (arith, (let group_place : c.in-At.at < 8 = cached_group_within c.args.cache c.requires _ _ _ c.shard_idents-idents.ensures c.shard_seqnos-seqnos.ensures _ _ (sym c.block_place.ensures ∙ c.in-At.is) in group_place))
 
 pub offset_bounds-group-place : goal.offset_bounds-group-place
 offset_bounds-group-place c = omega (arith, (let entry_place : c.in-At.place < 16 = cached_entry_within c.args.cache c.requires _ _ _ c.shard_idents-idents.ensures c.shard_seqnos-seqnos.ensures _ _ (sym c.block_place.ensures ∙ c.in-At.is) in entry_place))
@@ -98,7 +98,7 @@ loop-i-smaller c = omega (arith, c.loop-i-test.true)
 
 pub loop-i-preserved : goal.loop-i-preserved
 loop-i-preserved c =
-    tops_next c.args.cache c.args.mc_seqno c.args.tops.items _ _ c.loop-i.i c.loop-i.tails c.loop-i.ids c.loop-i.fingerprints c.loop-i.count c.loop-i.invariant _ (omega (arith, (let few-items : c.listed_count-listed.result ≤ 8 = rw c.listed_count-listed.ensures (within_few 8 c.args.tops.count) in few-items), (let long : length c.args.tops.items ≡ 8 = search (rules, length_mapped) in long), c.loop-i-test.true)) c.loop-i-test.true _ (step_cached c.args.cache c.args.mc_seqno true _ c.if-id-eq0.false _ (cached_at_place c.args.cache c.requires _ _ _ c.shard_idents-idents.ensures c.shard_seqnos-seqnos.ensures _ _ (sym c.block_place.ensures ∙ c.in-At.is) _ _) refl) _ (c.hold_row-tails-in-loop-i.ensures ∙ ap (λ r. hold_row r c.loop-i.tails) c.cached_row-row.ensures) _ c.next_ids-fresh.ensures (let two : length c.next_ids-fresh.result.ids ≡ 2 = search (rules, length_mapped) in two) _ _ _ _ c.fingerprint.ensures c.fingerprint-in-loop-i.ensures
+    tops_next c.args.cache c.args.mc_seqno c.args.tops.items _ _ c.loop-i.i c.loop-i.tails c.loop-i.ids c.loop-i.fingerprints c.loop-i.count c.loop-i.invariant _ (omega (arith, (let few_items : c.listed_count-listed.result ≤ 8 = rw c.listed_count-listed.ensures (within_few 8 c.args.tops.count) in few_items), (let long : length c.args.tops.items ≡ 8 = search (rules, length_mapped) in long), c.loop-i-test.true)) c.loop-i-test.true _ (step_cached c.args.cache c.args.mc_seqno true _ c.if-id-eq0.false _ (cached_at_place c.args.cache c.requires _ _ _ c.shard_idents-idents.ensures c.shard_seqnos-seqnos.ensures _ _ (sym c.block_place.ensures ∙ c.in-At.is) _ _) refl) _ (c.hold_row-tails-in-loop-i.ensures ∙ ap (λ r. hold_row r c.loop-i.tails) c.cached_row-row.ensures) _ c.next_ids-fresh.ensures (let two : length c.next_ids-fresh.result.ids ≡ 2 = search (rules, length_mapped) in two) _ _ _ _ c.fingerprint.ensures c.fingerprint-in-loop-i.ensures
 
 pub returns : goal.returns
 returns c =

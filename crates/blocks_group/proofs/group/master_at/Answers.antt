@@ -13,10 +13,10 @@ use Rattle.blocks_group.proofs.group.master_at.Goals as goal
 
 pub returns-in_default : goal.returns-in_default
 returns-in_default c =
-    master_vacant c.args.masters (let len : length c.args.masters.group.entries ≡ 16 = search (rules, length_mapped) in len) (let len-tops : length c.args.masters.tops ≡ 16 = search (rules, length_mapped) in len-tops) c.args.seqno _ _ _ c.entry_place-found.ensures c.in_default.is c.zero_master-zero.ensures
+    master_vacant c.args.masters (let len : length c.args.masters.group.entries ≡ 16 = search (rules, length_mapped) in len) (let len_tops : length c.args.masters.tops ≡ 16 = search (rules, length_mapped) in len_tops) c.args.seqno _ _ _ c.entry_place-found.ensures c.in_default.is c.zero_master-zero.ensures
 
 pub returns : goal.returns
 returns c =
     let k = c.in-At.at in
     ap (λ (b : MasterBlock). record { found = place_at k; block = b }) c.master_in_place-block.ensures
-    ∙ master_found c.args.masters (let len : length c.args.masters.group.entries ≡ 16 = search (rules, length_mapped) in len) (let len-tops : length c.args.masters.tops ≡ 16 = search (rules, length_mapped) in len-tops) c.args.seqno k (let at : seqno_place c.args.seqno (listed_seqnos c.args.masters.group) ≡ place_at c.in-At.at = sym c.entry_place-found.ensures ∙ c.in-At.is in at) zero_entry zero_tops
+    ∙ master_found c.args.masters (let len : length c.args.masters.group.entries ≡ 16 = search (rules, length_mapped) in len) (let len_tops : length c.args.masters.tops ≡ 16 = search (rules, length_mapped) in len_tops) c.args.seqno k (let at : seqno_place c.args.seqno (listed_seqnos c.args.masters.group) ≡ place_at c.in-At.at = sym c.entry_place-found.ensures ∙ c.in-At.is in at) zero_entry zero_tops

@@ -12,12 +12,12 @@ pub returns-then-at-ge-ENTRIES_LIMIT : goal.returns-then-at-ge-ENTRIES_LIMIT
 unfolding zero_master
 returns-then-at-ge-ENTRIES_LIMIT c =
     let e = sym (get_or-eq_default c.args.masters.group.entries zero_entry {n = c.args.at} (omega (arith, c.if-at-ge-ENTRIES_LIMIT.true, (let len : length c.args.masters.group.entries ≡ 16 = search (rules, length_mapped) in len)))) in
-    let t = sym (get_or-eq_default c.args.masters.tops zero_tops {n = c.args.at} (omega (arith, c.if-at-ge-ENTRIES_LIMIT.true, (let len-tops : length c.args.masters.tops ≡ 16 = search (rules, length_mapped) in len-tops)))) in
+    let t = sym (get_or-eq_default c.args.masters.tops zero_tops {n = c.args.at} (omega (arith, c.if-at-ge-ENTRIES_LIMIT.true, (let len_tops : length c.args.masters.tops ≡ 16 = search (rules, length_mapped) in len_tops)))) in
     c.zero_master.ensures ∙ (λ i. record { entry = e i; tops = t i })
 
 pub returns : goal.returns
 returns c =
     let k = c.args.at in
     let e = get_d_any c.args.masters.group.entries k _ zero_entry (omega (arith, c.if-at-ge-ENTRIES_LIMIT.false, (let len : length c.args.masters.group.entries ≡ 16 = search (rules, length_mapped) in len))) in
-    let t = get_d_any c.args.masters.tops k _ zero_tops (omega (arith, c.if-at-ge-ENTRIES_LIMIT.false, (let len-tops : length c.args.masters.tops ≡ 16 = search (rules, length_mapped) in len-tops))) in
+    let t = get_d_any c.args.masters.tops k _ zero_tops (omega (arith, c.if-at-ge-ENTRIES_LIMIT.false, (let len_tops : length c.args.masters.tops ≡ 16 = search (rules, length_mapped) in len_tops))) in
     λ i. record { entry = e i; tops = t i }

@@ -24,10 +24,10 @@ put_master_at-requires-then-masters-lt-ENTRIES_LIMIT c =
 
 pub returns-then-masters-lt-ENTRIES_LIMIT : goal.returns-then-masters-lt-ENTRIES_LIMIT
 returns-then-masters-lt-ENTRIES_LIMIT c =
-    c.put_master_at-then-masters-lt-ENTRIES_LIMIT.ensures ∙ put_master_vacant c.args.masters (let len : length c.args.masters.group.entries ≡ 16 = search (rules, length_mapped) in len) (let len-tops : length c.args.masters.tops ≡ 16 = search (rules, length_mapped) in len-tops) c.args.block _ (let vacant : seqno_place (held_seqno c.args.block.entry) (listed_seqnos c.args.masters.group) ≡ vacant_at c.in-Vacant.at = sym c.entry_place-found.ensures ∙ c.in-Vacant.is in vacant) c.if-masters-lt-ENTRIES_LIMIT.true
+    c.put_master_at-then-masters-lt-ENTRIES_LIMIT.ensures ∙ put_master_vacant c.args.masters (let len : length c.args.masters.group.entries ≡ 16 = search (rules, length_mapped) in len) (let len_tops : length c.args.masters.tops ≡ 16 = search (rules, length_mapped) in len_tops) c.args.block _ (let vacant : seqno_place (held_seqno c.args.block.entry) (listed_seqnos c.args.masters.group) ≡ vacant_at c.in-Vacant.at = sym c.entry_place-found.ensures ∙ c.in-Vacant.is in vacant) c.if-masters-lt-ENTRIES_LIMIT.true
 
 pub returns-in-At : goal.returns-in-At
-returns-in-At c = c.put_master_at.ensures ∙ put_master_found c.args.masters (let len : length c.args.masters.group.entries ≡ 16 = search (rules, length_mapped) in len) (let len-tops : length c.args.masters.tops ≡ 16 = search (rules, length_mapped) in len-tops) c.args.block _ (let found : seqno_place (held_seqno c.args.block.entry) (listed_seqnos c.args.masters.group) ≡ place_at c.in-At.at = sym c.entry_place-found.ensures ∙ c.in-At.is in found)
+returns-in-At c = c.put_master_at.ensures ∙ put_master_found c.args.masters (let len : length c.args.masters.group.entries ≡ 16 = search (rules, length_mapped) in len) (let len_tops : length c.args.masters.tops ≡ 16 = search (rules, length_mapped) in len_tops) c.args.block _ (let found : seqno_place (held_seqno c.args.block.entry) (listed_seqnos c.args.masters.group) ≡ place_at c.in-At.at = sym c.entry_place-found.ensures ∙ c.in-At.is in found)
 
 pub returns-else-masters-lt-ENTRIES_LIMIT : goal.returns-else-masters-lt-ENTRIES_LIMIT
-returns-else-masters-lt-ENTRIES_LIMIT c = put_master_full c.args.masters (let len : length c.args.masters.group.entries ≡ 16 = search (rules, length_mapped) in len) (let len-tops : length c.args.masters.tops ≡ 16 = search (rules, length_mapped) in len-tops) c.args.block _ (let vacant : seqno_place (held_seqno c.args.block.entry) (listed_seqnos c.args.masters.group) ≡ vacant_at c.in-Vacant.at = sym c.entry_place-found.ensures ∙ c.in-Vacant.is in vacant) c.if-masters-lt-ENTRIES_LIMIT.false
+returns-else-masters-lt-ENTRIES_LIMIT c = put_master_full c.args.masters (let len : length c.args.masters.group.entries ≡ 16 = search (rules, length_mapped) in len) (let len_tops : length c.args.masters.tops ≡ 16 = search (rules, length_mapped) in len_tops) c.args.block _ (let vacant : seqno_place (held_seqno c.args.block.entry) (listed_seqnos c.args.masters.group) ≡ vacant_at c.in-Vacant.at = sym c.entry_place-found.ensures ∙ c.in-Vacant.is in vacant) c.if-masters-lt-ENTRIES_LIMIT.false

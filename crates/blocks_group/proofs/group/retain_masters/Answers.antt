@@ -14,6 +14,6 @@ pub returns : goal.returns
 returns c =
     let m = c.args.masters in
     let k = c.keep_flags-keep.ensures in
-    retain_masters_by_flags m (let len : length c.args.masters.group.entries ≡ 16 = search (rules, length_mapped) in len) (let len-tops : length c.args.masters.tops ≡ 16 = search (rules, length_mapped) in len-tops) c.args.rule _ _
+    retain_masters_by_flags m (let len : length c.args.masters.group.entries ≡ 16 = search (rules, length_mapped) in len) (let len_tops : length c.args.masters.tops ≡ 16 = search (rules, length_mapped) in len_tops) c.args.rule _ _
     (c.compact_entries-kept.ensures ∙ ap (λ k. with_records (flagged k m.group.entries) m.group) k ∙ retain_entries_by_flags c.args.rule m.group)
     (c.compact_tops-kept_tops.ensures ∙ ap (λ k. padded 16 zero_tops (flagged k m.tops)) k)

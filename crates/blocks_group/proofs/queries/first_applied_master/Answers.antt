@@ -12,10 +12,10 @@ use Rattle.blocks_group.proofs.queries.first_applied_master.Goals as goal
 
 pub returns-in_default : goal.returns-in_default
 returns-in_default c =
-    applied_vacant c.args.from c.args.masters (let len : length c.args.masters.group.entries ≡ 16 = search (rules, length_mapped) in len) (let len-tops : length c.args.masters.tops ≡ 16 = search (rules, length_mapped) in len-tops) _ _ _ c.first_applied_place-found.ensures c.in_default.is c.zero_master-zero.ensures
+    applied_vacant c.args.from c.args.masters (let len : length c.args.masters.group.entries ≡ 16 = search (rules, length_mapped) in len) (let len_tops : length c.args.masters.tops ≡ 16 = search (rules, length_mapped) in len_tops) _ _ _ c.first_applied_place-found.ensures c.in_default.is c.zero_master-zero.ensures
 
 pub returns : goal.returns
 returns c =
     let k = c.in-At.at in
     ap (λ (b : MasterBlock). record { found = place_at k; block = b }) c.master_in_place-block.ensures
-    ∙ applied_found c.args.from c.args.masters (let len : length c.args.masters.group.entries ≡ 16 = search (rules, length_mapped) in len) (let len-tops : length c.args.masters.tops ≡ 16 = search (rules, length_mapped) in len-tops) k (let at : first_applied_place c.args.from c.args.masters.group ≡ place_at c.in-At.at = sym c.first_applied_place-found.ensures ∙ c.in-At.is in at) zero_entry zero_tops
+    ∙ applied_found c.args.from c.args.masters (let len : length c.args.masters.group.entries ≡ 16 = search (rules, length_mapped) in len) (let len_tops : length c.args.masters.tops ≡ 16 = search (rules, length_mapped) in len_tops) k (let at : first_applied_place c.args.from c.args.masters.group ≡ place_at c.in-At.at = sym c.first_applied_place-found.ensures ∙ c.in-At.is in at) zero_entry zero_tops

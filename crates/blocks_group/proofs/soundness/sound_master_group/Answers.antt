@@ -9,4 +9,4 @@ use Rattle.blocks_group.proofs.soundness.sound_master_group.Goals as goal
 pub returns : goal.returns
 returns c =
     rw (c.boundary_in_masterchain-b.ensures, c.tops_zero_beyond-t.ensures, c.entries_zero_beyond-z.ensures, c.seqnos_rise-o.ensures, c.sound_masters-e.ensures)
-    (sym (sound_master_group_parts c.args.masters (let len : length c.args.masters.group.entries ≡ 16 = search (rules, length_mapped) in len) (let len-tops : length c.args.masters.tops ≡ 16 = search (rules, length_mapped) in len-tops)))
+    (sym (sound_master_group_parts c.args.masters (let len : length c.args.masters.group.entries ≡ 16 = search (rules, length_mapped) in len) (let len_tops : length c.args.masters.tops ≡ 16 = search (rules, length_mapped) in len_tops)))

@@ -16,16 +16,16 @@ loop-i-init c =
 
 pub returns-then-count-i : goal.returns-then-count-i
 returns-then-count-i c =
-    sym (c.loop-i.invariant.1 ∙ masters_passed sound_master c.args.group.entries c.args.tops (let len : length c.args.group.entries ≡ 16 = search (rules, length_mapped) in len) (let len-tops : length c.args.tops ≡ 16 = search (rules, length_mapped) in len-tops) _ _ c.if-count-i.true)
+    sym (c.loop-i.invariant.1 ∙ masters_passed sound_master c.args.group.entries c.args.tops (let len : length c.args.group.entries ≡ 16 = search (rules, length_mapped) in len) (let len_tops : length c.args.tops ≡ 16 = search (rules, length_mapped) in len_tops) _ _ c.if-count-i.true)
 
 pub returns-then-not-sound_master : goal.returns-then-not-sound_master
 returns-then-not-sound_master c =
-    sym (c.loop-i.invariant.1 ∙ masters_stop sound_master c.args.group.entries c.args.tops (let len : length c.args.group.entries ≡ 16 = search (rules, length_mapped) in len) (let len-tops : length c.args.tops ≡ 16 = search (rules, length_mapped) in len-tops) _ _ _ _ _ c.loop-i-test.true c.if-count-i.false c.sound_master.ensures c.if-not-sound_master.true)
+    sym (c.loop-i.invariant.1 ∙ masters_stop sound_master c.args.group.entries c.args.tops (let len : length c.args.group.entries ≡ 16 = search (rules, length_mapped) in len) (let len_tops : length c.args.tops ≡ 16 = search (rules, length_mapped) in len_tops) _ _ _ _ _ c.loop-i-test.true c.if-count-i.false c.sound_master.ensures c.if-not-sound_master.true)
 
 pub loop-i-preserved : goal.loop-i-preserved
 loop-i-preserved c =
-    (search rules, c.loop-i.invariant.1 ∙ masters_next sound_master c.args.group.entries c.args.tops (let len : length c.args.group.entries ≡ 16 = search (rules, length_mapped) in len) (let len-tops : length c.args.tops ≡ 16 = search (rules, length_mapped) in len-tops) _ _ _ _ _ c.loop-i-test.true c.if-count-i.false c.sound_master.ensures c.if-not-sound_master.false)
+    (search rules, c.loop-i.invariant.1 ∙ masters_next sound_master c.args.group.entries c.args.tops (let len : length c.args.group.entries ≡ 16 = search (rules, length_mapped) in len) (let len_tops : length c.args.tops ≡ 16 = search (rules, length_mapped) in len_tops) _ _ _ _ _ c.loop-i-test.true c.if-count-i.false c.sound_master.ensures c.if-not-sound_master.false)
 
 pub returns : goal.returns
 returns c =
-    sym (c.loop-i.invariant.1 ∙ masters_over sound_master c.args.group.entries c.args.tops (let len : length c.args.group.entries ≡ 16 = search (rules, length_mapped) in len) (let len-tops : length c.args.tops ≡ 16 = search (rules, length_mapped) in len-tops) _ c.loop-i.i c.loop-i-test.false)
+    sym (c.loop-i.invariant.1 ∙ masters_over sound_master c.args.group.entries c.args.tops (let len : length c.args.group.entries ≡ 16 = search (rules, length_mapped) in len) (let len_tops : length c.args.tops ≡ 16 = search (rules, length_mapped) in len_tops) _ c.loop-i.i c.loop-i-test.false)
