@@ -2,3 +2,4 @@ pub mod LoopLaws
 pub mod ArrayLaws
 pub mod ScanLaws
 pub mod PlaceLaws
+pub mod ListedLaws

@@ -1,3 +1,4 @@
+pub mod Listed
 pub mod Equality
 pub mod Zeros
 pub mod Entry

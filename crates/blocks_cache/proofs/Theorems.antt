@@ -1,12 +1,13 @@
 -- What is proved of calls on a cache as it is held, each theorem whole in one place; the proofs are in the modules that it cites. Every entry point's
 -- contract cites `call_on`, so that these are theorems about the code.
 -- Assumes nothing.
+use Rattle.block_records.specs.declared.questions.Refusal.{Refusal}
+use Rattle.block_records.specs.declared.questions.Refusal.TheVariants.{Unsound}
+use Rattle.std.specs.Prelude.{None, Some, map}
 use Rattle.std.proofs.Common.{◌≡◌, ℕ, true, false, List, [], ◌∷◌}
-use mathlib.Core.Option.{none, some}
 use Rattle.block_records.specs.declared.block_id.BlockIdShort.{BlockIdShort}
 use Rattle.block_records.specs.declared.entry.BlockCacheEntry.{BlockCacheEntry}
 use Rattle.blocks_cache.specs.declared.cache.Cache.{Cache}
-use Rattle.block_records.specs.rules.Lists.{each}
 use Rattle.block_records.specs.rules.Questions.{first_no}
 use Rattle.blocks_cache.proofs.ClaimProof.{claim, claim_from_empty, run_by_rules}
 use Rattle.blocks_cache.proofs.layout.CacheLaws.{no_cache_refuses, sound_cache_packed}
@@ -29,7 +30,7 @@ pub the_claim_from_empty : ClaimFromEmpty
 the_claim_from_empty = claim_from_empty
 
 -- The outcomes of a list of calls on a sound cache are those of the rules' steps, packed.
-pub calls_are_steps : (start : Cache) → sound_cache start ≡ true → (calls : List Call) → run_on start calls ≡ each pack_outcome (run (view start) calls)
+pub calls_are_steps : (start : Cache) → sound_cache start ≡ true → (calls : List Call) → run_on start calls ≡ map pack_outcome (run (view start) calls)
 calls_are_steps = run_by_rules
 
 -- ===== sound caches =====
@@ -49,19 +50,19 @@ sound_is_packed = sound_cache_packed
 -- ===== refusals =====
 
 -- With no question answered by no, a call does not refuse.
-pub yes_to_all : (c : Cache) (call : Call) → first_no (questions_on c call) ≡ none → refusal (call_on c call).answer ≡ none
+pub yes_to_all : (c : Cache) (call : Call) → first_no (questions_on c call) ≡ None → refusal (call_on c call).answer ≡ None
 yes_to_all = yes_to_all_on
 
 -- The first no is the answer, by its number; cache and slice stay as they were, whatever the cache.
-pub refusal_changes_nothing : (c : Cache) (call : Call) (n : ℕ) → first_no (questions_on c call) ≡ some n → call_on c call ≡ record { cache = c; answer = refused n; slice = call.lent }
+pub refusal_changes_nothing : (c : Cache) (call : Call) (n : Refusal) → first_no (questions_on c call) ≡ Some n → call_on c call ≡ record { cache = c; answer = refused n; slice = call.lent }
 refusal_changes_nothing = no_leaves
 
 -- On an unsound cache every call answers 1,
-pub unsound_is_refused : (c : Cache) (call : Call) → sound_cache c ≡ false → call_on c call ≡ record { cache = c; answer = refused 1; slice = call.lent }
+pub unsound_is_refused : (c : Cache) (call : Call) → sound_cache c ≡ false → call_on c call ≡ record { cache = c; answer = refused Unsound; slice = call.lent }
 unsound_is_refused = unsound_answers_1
 
 -- and so on `no_cache`, which stands beside a refusal of `empty`.
-pub no_cache_refuses_every_call : (call : Call) → call_on no_cache call ≡ record { cache = no_cache; answer = refused 1; slice = call.lent }
+pub no_cache_refuses_every_call : (call : Call) → call_on no_cache call ≡ record { cache = no_cache; answer = refused Unsound; slice = call.lent }
 no_cache_refuses_every_call = no_cache_refuses
 
 -- ===== calls that only read =====

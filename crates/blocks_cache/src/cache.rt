@@ -2,18 +2,20 @@
 ghost use Rattle.std.specs.Prelude.{◌≡◌};
 ghost use Rattle.blocks_cache.specs.layout.Cache.{empty, zero_cache, zero_shard_group};
 
-use crate::master_data::{AppliedRange, MasterData};
+use crate::master_data::MasterData;
 use block_records::block_id::{ShardIdent, zero_id, zero_shard};
 use block_records::limits::{IDS_LIMIT, NO_CACHE_SHARDS, SHARDS_LIMIT};
+use block_records::listed::Listed;
+use block_records::questions::Refusal;
 use blocks_group::group::{Group, MasterGroup, zero_group, zero_master_group};
 
-#[derive(Clone, Copy)]
+#[derive(Clone, Copy, PartialEq, Eq)]
 pub struct ShardGroup {
     pub shard: ShardIdent,
     pub group: Group,
 }
 
-#[derive(Clone, Copy)]
+#[derive(Clone, Copy, PartialEq, Eq)]
 pub struct Cache {
     pub zerostate_mc_seqno: u32,
     pub masters: MasterGroup,
@@ -22,16 +24,10 @@ pub struct Cache {
     pub shard_count: usize,
 }
 
-#[derive(Clone, Copy)]
-pub enum NewCacheAnswer {
-    Made,
-    Refused(u32),
-}
-
-// A new cache, or the number of its refusal, beside which stands a cache on which every call answers 1.
-#[derive(Clone, Copy)]
+// A new cache, or its refusal, beside which stands a cache on which every call is refused with 1.
+#[derive(Clone, Copy, PartialEq, Eq)]
 pub struct NewCache {
-    pub answer: NewCacheAnswer,
+    pub answer: Result<(), Refusal>,
     pub cache: Cache,
 }
 
@@ -49,9 +45,8 @@ fn zero_cache(zerostate: u32, count: usize) -> Cache
     let masters = zero_master_group();
     let id = zero_id();
     let data = MasterData {
-        ids: [id; IDS_LIMIT],
-        count: 0,
-        range: AppliedRange::Absent,
+        ids: Listed::empty(id),
+        range: None,
     };
     let shard = zero_shard_group();
     Cache {
@@ -69,10 +64,10 @@ pub fn empty(zerostate_mc_seqno: u32) -> NewCache
 {
     if zerostate_mc_seqno < 4294967295 {
         let cache = zero_cache(zerostate_mc_seqno, 0);
-        let answer = NewCacheAnswer::Made;
+        let answer = Ok(());
         return NewCache { answer, cache };
     }
     let cache = zero_cache(0, NO_CACHE_SHARDS);
-    let answer = NewCacheAnswer::Refused(2);
+    let answer = Err(Refusal::SeqnoLimit);
     NewCache { answer, cache }
 }

@@ -1,7 +1,7 @@
 // RULES.md, Boundary and collection and Removal of collated blocks: set boundary, collect, remove next collated.
+ghost use Rattle.std.specs.List.{fold};
 ghost use Rattle.std.specs.Prelude.{◌≡◌};
 ghost use Rattle.block_records.specs.rules.BlockId.{listed_keys};
-ghost use Rattle.block_records.specs.rules.Lists.{fold};
 ghost use Rattle.blocks_cache.specs.arrays.Collection.{change_outcome, changed_first, collect_shard_group, drop_collected, drop_removed, held_bound_one, held_collect, held_remove_one, keys_answer};
 ghost use Rattle.blocks_cache.specs.layout.Cache.{call_on};
 ghost use Rattle.cache_rules.specs.Calls.{collect, remove_next_collated, set_boundary, unlent};
@@ -12,41 +12,30 @@ use crate::shards::{ident_place, shard_idents};
 use crate::soundness::sound_cache;
 use block_records::block_id::{is_masterchain, key_shard};
 use block_records::limits::{KEYS_LIMIT, SHARDS_LIMIT};
-use block_records::place::Place;
-use block_records::questions::{Refusal, keys_refusal};
+use block_records::questions::{Refusal, check_keys};
 use block_records::store_records::Keys;
 use blocks_group::group::{set_group_boundary, set_master_boundary};
 use blocks_group::queries::{
-    SeqnoOption, collect_group, collect_masters, highest_below_boundary, lowest_collated_above,
+    collect_group, collect_masters, highest_below_boundary, lowest_collated_above,
     remove_collated_above, remove_collated_masters_above,
 };
 
-#[derive(Clone, Copy)]
-pub enum ChangeAnswer {
-    Done,
-    Refused(u32),
-}
-
-#[derive(Clone, Copy)]
+#[derive(Clone, Copy, PartialEq, Eq)]
 pub struct CacheChange {
-    pub answer: ChangeAnswer,
+    pub answer: Result<(), Refusal>,
     pub cache: Cache,
 }
 
 // ===== keys =====
 
 // Question 1, then those of the keys.
-fn keys_answer(cache: Cache, given: Keys) -> ChangeAnswer
+fn keys_answer(cache: Cache, given: Keys) -> Result<(), Refusal>
     ensures { result ≡ keys_answer given cache }
 {
     if !sound_cache(cache) {
-        return ChangeAnswer::Refused(1);
+        return Err(Refusal::Unsound);
     }
-    let refusal = keys_refusal(given);
-    match refusal {
-        Refusal::Absent => ChangeAnswer::Done,
-        Refusal::Number(number) => ChangeAnswer::Refused(number),
-    }
+    check_keys(given)
 }
 
 // ===== set boundary =====
@@ -57,7 +46,7 @@ fn bound_all(cache: Cache, given: Keys) -> Cache
 {
     let shards = cache.shards;
     let idents = shard_idents(shards);
-    let keys = given.keys;
+    let keys = given.items;
     let count = given.count;
     let mut out = cache;
     let mut i: usize = 0;
@@ -74,7 +63,7 @@ fn bound_all(cache: Cache, given: Keys) -> Cache
             continue;
         }
         let place = ident_place(idents, out.shard_count, shard);
-        let Place::At(at) = place else {
+        let Ok(at) = place else {
             continue;
         };
         let held = out.shards[at];
@@ -89,12 +78,12 @@ pub fn set_gc_to_boundary(cache: Cache, to_blocks_keys: Keys) -> CacheChange
     ensures { change_outcome result ≡ call_on cache (unlent (set_boundary to_blocks_keys)) }
 {
     let answer = keys_answer(cache, to_blocks_keys);
-    let ChangeAnswer::Done = answer else {
+    if let Err(_) = answer {
         return CacheChange { answer, cache };
-    };
+    }
     let bound = bound_all(cache, to_blocks_keys);
     CacheChange {
-        answer: ChangeAnswer::Done,
+        answer: Ok(()),
         cache: bound,
     }
 }
@@ -102,12 +91,12 @@ pub fn set_gc_to_boundary(cache: Cache, to_blocks_keys: Keys) -> CacheChange
 // ===== collect =====
 
 // The ids from the highest collected master on stay.
-fn drop_collected(data: MasterData, highest: SeqnoOption) -> MasterData
+fn drop_collected(data: MasterData, highest: Option<u32>) -> MasterData
     ensures { result ≡ drop_collected highest «data» }
 {
     match highest {
-        SeqnoOption::Absent => data,
-        SeqnoOption::At(seqno) => drop_ids_below(data, seqno),
+        None => data,
+        Some(seqno) => drop_ids_below(data, seqno),
     }
 }
 
@@ -151,13 +140,13 @@ pub fn gc_prev_blocks(cache: Cache) -> CacheChange
 {
     if !sound_cache(cache) {
         return CacheChange {
-            answer: ChangeAnswer::Refused(1),
+            answer: Err(Refusal::Unsound),
             cache,
         };
     }
     let collected = held_collect(cache);
     CacheChange {
-        answer: ChangeAnswer::Done,
+        answer: Ok(()),
         cache: collected,
     }
 }
@@ -165,12 +154,12 @@ pub fn gc_prev_blocks(cache: Cache) -> CacheChange
 // ===== remove next collated =====
 
 // The ids below the lowest removed master stay.
-fn drop_removed(data: MasterData, lowest: SeqnoOption) -> MasterData
+fn drop_removed(data: MasterData, lowest: Option<u32>) -> MasterData
     ensures { result ≡ drop_removed lowest «data» }
 {
     match lowest {
-        SeqnoOption::Absent => data,
-        SeqnoOption::At(seqno) => drop_ids_from(data, seqno),
+        None => data,
+        Some(seqno) => drop_ids_from(data, seqno),
     }
 }
 
@@ -181,7 +170,7 @@ fn remove_all(cache: Cache, given: Keys) -> Cache
 {
     let shards = cache.shards;
     let idents = shard_idents(shards);
-    let keys = given.keys;
+    let keys = given.items;
     let count = given.count;
     let mut out = cache;
     let mut i: usize = 0;
@@ -201,7 +190,7 @@ fn remove_all(cache: Cache, given: Keys) -> Cache
             continue;
         }
         let place = ident_place(idents, out.shard_count, shard);
-        let Place::At(at) = place else {
+        let Ok(at) = place else {
             continue;
         };
         let held = out.shards[at];
@@ -216,12 +205,12 @@ pub fn remove_next_collated_blocks_from_cache(cache: Cache, after_blocks_keys: K
     ensures { change_outcome result ≡ call_on cache (unlent (remove_next_collated after_blocks_keys)) }
 {
     let answer = keys_answer(cache, after_blocks_keys);
-    let ChangeAnswer::Done = answer else {
+    if let Err(_) = answer {
         return CacheChange { answer, cache };
-    };
+    }
     let left = remove_all(cache, after_blocks_keys);
     CacheChange {
-        answer: ChangeAnswer::Done,
+        answer: Ok(()),
         cache: left,
     }
 }

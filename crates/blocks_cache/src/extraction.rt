@@ -12,8 +12,8 @@ ghost use Rattle.cache_rules.specs.Extraction.{extraction_of};
 ghost use Rattle.cache_rules.specs.Model.{first_applied};
 
 use crate::cache::{Cache, ShardGroup};
-use crate::lookup::{BlockPlace, EntrySeqno, GroupSeqnos, block_place, shard_seqnos};
-use crate::master_data::{AppliedRange, MasterData, drop_ids_below, moved_start};
+use crate::lookup::{EntrySeqno, GroupSeqnos, block_place, shard_seqnos};
+use crate::master_data::{MasterData, drop_ids_below, moved_start};
 use crate::shards::shard_idents;
 use crate::soundness::sound_cache;
 use block_records::block_id::{BlockId, zero_id};
@@ -21,8 +21,9 @@ use block_records::entry::{BlockCacheEntry, MasterBlock, held_applied, zero_entr
 use block_records::limits::{
     ENTRIES_LIMIT, SHARDS_LIMIT, SLICE_PLACES, TOPS_LIMIT, WAITING_PLACES,
 };
-use block_records::place::{Place, listed_count};
-use block_records::questions::seqno_fits;
+use block_records::listed::listed_count;
+use block_records::questions::{Refusal, seqno_fits};
+use block_records::range::AppliedRange;
 use block_records::top_block::{TopBlocks, zero_top};
 use blocks_group::group::{Group, MasterGroup, master_at, remove_master};
 use blocks_group::mark::refreshed_mark;
@@ -198,7 +199,7 @@ fn extraction_of(cache: Cache, master: MasterBlock) -> Extraction
     while head < count {
         let id = ids[head];
         head += 1;
-        let BlockPlace::At(at, place) = block_place(idents, seqnos, id) else {
+        let Some((at, place)) = block_place(idents, seqnos, id) else {
             continue;
         };
         let held = cache.shards[at];
@@ -214,9 +215,9 @@ fn extraction_of(cache: Cache, master: MasterBlock) -> Extraction
         blocks[joined] = block;
         joined += 1;
         let previous = block.prev_ids;
-        let first = previous.ids[0];
+        let first = previous.items[0];
         ids[count] = first;
-        let second = previous.ids[1];
+        let second = previous.items[1];
         ids[count + 1] = second;
         count += previous.count;
     }
@@ -239,18 +240,17 @@ pub enum ExtractRequest {
     Sync(u32),
 }
 
-#[derive(Clone, Copy)]
+#[derive(Clone, Copy, PartialEq, Eq)]
 pub enum ExtractAnswer {
     Popped { last: bool },
     Extracted,
     AlreadyExtracted,
-    Refused(u32),
 }
 
 // M with its top items, the number of blocks beside it and of ids taken; zeros where the answer hands out nothing.
-#[derive(Clone, Copy)]
+#[derive(Clone, Copy, PartialEq, Eq)]
 pub struct SubgraphExtract {
-    pub answer: ExtractAnswer,
+    pub answer: Result<ExtractAnswer, Refusal>,
     pub master: MasterBlock,
     pub joined: usize,
     pub taken: usize,
@@ -265,7 +265,7 @@ pub struct ExtractWithBlocks {
 }
 
 // Nothing is handed out.
-fn no_extract(answer: ExtractAnswer, cache: Cache) -> ExtractWithBlocks
+fn no_extract(answer: Result<ExtractAnswer, Refusal>, cache: Cache) -> ExtractWithBlocks
     ensures { result ≡ no_extract answer cache }
 {
     let master = zero_master();
@@ -286,21 +286,16 @@ fn no_extract(answer: ExtractAnswer, cache: Cache) -> ExtractWithBlocks
 // M and its subgraph are handed out, with the masters and the range as given; the ids from M's seqno on stay.
 fn hand_out(
     cache: Cache,
-    answer: ExtractAnswer,
+    answer: Result<ExtractAnswer, Refusal>,
     master: MasterBlock,
     masters: MasterGroup,
-    range: AppliedRange,
+    range: Option<AppliedRange>,
     extraction: Extraction,
 ) -> ExtractWithBlocks
     ensures { result ≡ hand_out cache answer master masters range extraction }
 {
     let kept = drop_ids_below(cache.data, master.entry.block_id.seqno);
-    let ids = kept.ids;
-    let data = MasterData {
-        ids,
-        count: kept.count,
-        range,
-    };
+    let data = MasterData { range, ..kept };
     let shards = extraction.shards;
     let mut left = cache;
     left.masters = masters;
@@ -324,13 +319,13 @@ fn pop_with_blocks(cache: Cache, from: u32) -> ExtractWithBlocks
 {
     let first = first_applied_master(cache.masters, from);
     let found = first.found;
-    let Place::At(at) = found else {
-        let answer = ExtractAnswer::Refused(11);
+    let Ok(at) = found else {
+        let answer = Err(Refusal::NothingApplied);
         return no_extract(answer, cache);
     };
     let seqno = first.block.entry.block_id.seqno;
     let above = any_applied_above(cache.masters.group, seqno);
-    let answer = ExtractAnswer::Popped { last: !above };
+    let answer = Ok(ExtractAnswer::Popped { last: !above });
     let extraction = extraction_of(cache, first.block);
     let left = remove_master(cache.masters, seqno);
     let data = cache.data;
@@ -340,7 +335,7 @@ fn pop_with_blocks(cache: Cache, from: u32) -> ExtractWithBlocks
 }
 
 // The range moved on past M, if M is applied.
-fn move_applied_start(range: AppliedRange, master: MasterBlock) -> AppliedRange
+fn move_applied_start(range: Option<AppliedRange>, master: MasterBlock) -> Option<AppliedRange>
     ensures { result ≡ move_applied_start range master }
 {
     if held_applied(master.entry) {
@@ -356,11 +351,11 @@ fn sync_with_blocks(cache: Cache, seqno: u32) -> ExtractWithBlocks
 {
     let there = master_at(cache.masters, seqno);
     let found = there.found;
-    let Place::At(at) = found else {
-        let answer = ExtractAnswer::AlreadyExtracted;
+    let Ok(at) = found else {
+        let answer = Ok(ExtractAnswer::AlreadyExtracted);
         return no_extract(answer, cache);
     };
-    let answer = ExtractAnswer::Extracted;
+    let answer = Ok(ExtractAnswer::Extracted);
     let extraction = extraction_of(cache, there.block);
     let removed = remove_master(cache.masters, there.block.entry.block_id.seqno);
     let left = refresh_masters(removed, there.block.entry.block_id.seqno);
@@ -388,16 +383,16 @@ pub(crate) fn extract_with_blocks(
     ensures { ExtractsWithBlocks cache request places result }
 {
     if !sound_cache(cache) {
-        let answer = ExtractAnswer::Refused(1);
+        let answer = Err(Refusal::Unsound);
         return no_extract(answer, cache);
     }
     let seqno = request_seqno(request);
     if !seqno_fits(seqno) {
-        let answer = ExtractAnswer::Refused(2);
+        let answer = Err(Refusal::SeqnoLimit);
         return no_extract(answer, cache);
     }
     if places < SLICE_PLACES {
-        let answer = ExtractAnswer::Refused(10);
+        let answer = Err(Refusal::SliceTooShort);
         return no_extract(answer, cache);
     }
     if let ExtractRequest::Pop(from) = request {

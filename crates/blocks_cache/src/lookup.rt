@@ -1,14 +1,12 @@
 // RULES.md, How it is held: the shard block that is cached under a shard and seqno.
-ghost use Rattle.std.specs.Prelude.{◌≡◌};
-ghost use Rattle.block_records.specs.rules.Lists.{each};
+ghost use Rattle.std.specs.Prelude.{◌≡◌, map};
 ghost use Rattle.blocks_cache.specs.arrays.Lookup.{block_place, first_ident_place, first_seqno_place, group_seqnos, no_seqnos, shard_seqnos};
 
 use crate::cache::ShardGroup;
 use block_records::block_id::{BlockId, ShardIdent, id_shard, same_shard};
 use block_records::limits::{ENTRIES_LIMIT, SHARDS_LIMIT};
-use block_records::place::{Place, listed_count};
+use block_records::listed::listed_count;
 use blocks_group::group::Group;
-use blocks_group::mark::Mark;
 
 // An entry's seqno, and whether the entry is still cached.
 #[derive(Clone, Copy)]
@@ -21,17 +19,8 @@ pub(crate) struct EntrySeqno {
 #[derive(Clone, Copy)]
 pub(crate) struct GroupSeqnos {
     pub entries: [EntrySeqno; ENTRIES_LIMIT],
-    pub mark: Mark,
+    pub mark: Option<u32>,
 }
-
-// Where a block is cached: the place of its group, and its own in it.
-#[derive(Clone, Copy)]
-pub(crate) enum BlockPlace {
-    At(usize, usize),
-    Absent,
-}
-
-// ===== of any cache =====
 
 // ===== the seqnos of the groups, gathered once: a loop over ids then copies no group =====
 
@@ -44,7 +33,7 @@ fn no_seqnos() -> GroupSeqnos
     };
     GroupSeqnos {
         entries: [zero; ENTRIES_LIMIT],
-        mark: Mark::Absent,
+        mark: None,
     }
 }
 
@@ -70,7 +59,7 @@ fn group_seqnos(group: Group) -> GroupSeqnos
 }
 
 pub(crate) fn shard_seqnos(shards: [ShardGroup; SHARDS_LIMIT]) -> [GroupSeqnos; SHARDS_LIMIT]
-    ensures { result ≡ each shard_seqnos shards }
+    ensures { result ≡ map shard_seqnos shards }
 {
     let zero = no_seqnos();
     let mut out = [zero; SHARDS_LIMIT];
@@ -85,47 +74,48 @@ pub(crate) fn shard_seqnos(shards: [ShardGroup; SHARDS_LIMIT]) -> [GroupSeqnos; 
 
 // ===== the lookup, by an id's key =====
 
-fn first_ident_place(idents: [ShardIdent; SHARDS_LIMIT], shard: ShardIdent) -> Place
+fn first_ident_place(idents: [ShardIdent; SHARDS_LIMIT], shard: ShardIdent) -> Result<usize, usize>
     ensures { result ≡ first_ident_place shard idents }
 {
     let mut i: usize = 0;
     while i < SHARDS_LIMIT {
         let x = idents[i];
         if same_shard(x, shard) {
-            return Place::At(i);
+            return Ok(i);
         }
         i += 1;
     }
-    Place::Vacant(i)
+    Err(i)
 }
 
-fn first_seqno_place(group: GroupSeqnos, seqno: u32) -> Place
+fn first_seqno_place(group: GroupSeqnos, seqno: u32) -> Result<usize, usize>
     ensures { result ≡ first_seqno_place seqno group }
 {
     let mut i: usize = 0;
     while i < ENTRIES_LIMIT {
         let x = group.entries[i];
         if x.cached & (x.seqno == seqno) {
-            return Place::At(i);
+            return Ok(i);
         }
         i += 1;
     }
-    Place::Vacant(i)
+    Err(i)
 }
 
+// Where the block under an id's key is cached: the place of its group, and its own in it.
 pub(crate) fn block_place(
     idents: [ShardIdent; SHARDS_LIMIT],
     seqnos: [GroupSeqnos; SHARDS_LIMIT],
     id: BlockId,
-) -> BlockPlace
+) -> Option<(usize, usize)>
     ensures { result ≡ block_place id idents seqnos }
 {
     let shard = id_shard(id);
-    let Place::At(at) = first_ident_place(idents, shard) else {
-        return BlockPlace::Absent;
+    let Ok(at) = first_ident_place(idents, shard) else {
+        return None;
     };
-    let Place::At(entry) = first_seqno_place(seqnos[at], id.seqno) else {
-        return BlockPlace::Absent;
+    let Ok(place) = first_seqno_place(seqnos[at], id.seqno) else {
+        return None;
     };
-    BlockPlace::At(at, entry)
+    Some((at, place))
 }

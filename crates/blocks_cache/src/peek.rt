@@ -1,6 +1,5 @@
 // RULES.md, Peek: the master that pop would take, and the rows of its starting items.
-ghost use Rattle.std.specs.Prelude.{◌≡◌, true};
-ghost use Rattle.blocks_cache.specs.declared.peek.MissingTop.TheVariants.{At as missing_at};
+ghost use Rattle.std.specs.Prelude.{◌≡◌, Some, true};
 ghost use Rattle.block_records.specs.rules.BlockId.{key};
 ghost use Rattle.blocks_cache.specs.arrays.Extraction.{held_starting_items};
 ghost use Rattle.blocks_cache.specs.arrays.Peek.{held_peek, held_view_tops, pack_view, peek_outcome, zero_peek, zero_row, zeroed_peek};
@@ -9,46 +8,37 @@ ghost use Rattle.cache_rules.specs.Calls.{peek, unlent};
 
 use crate::cache::Cache;
 use crate::extraction::held_starting_items;
-use crate::lookup::{BlockPlace, block_place, shard_seqnos};
+use crate::lookup::{block_place, shard_seqnos};
 use crate::shards::shard_idents;
 use crate::soundness::sound_cache;
 use block_records::block_id::{BlockId, BlockIdShort, key, zero_id};
 use block_records::limits::TOPS_LIMIT;
-use block_records::place::Place;
-use block_records::questions::seqno_fits;
+use block_records::questions::{Refusal, seqno_fits};
 use block_records::top_block::TopBlocks;
 use blocks_group::queries::first_applied_master;
 
 // What is shown of a block.
-#[derive(Clone, Copy)]
+#[derive(Clone, Copy, PartialEq, Eq)]
 pub struct PeekRow {
     pub block_id: BlockId,
     pub ref_by_mc_seqno: u32,
     pub payload: u64,
 }
 
-// The key of the first starting item that has no row, if there is one.
-#[derive(Clone, Copy)]
-pub enum MissingTop {
-    Absent,
-    At(BlockIdShort),
-}
-
-#[derive(Clone, Copy)]
+#[derive(Clone, Copy, PartialEq, Eq)]
 pub enum PeekAnswer {
     Found,
     Nothing,
-    Refused(u32),
 }
 
 // The master's row and those of its tops; zeros beyond the count, and where nothing is found.
-#[derive(Clone, Copy)]
+#[derive(Clone, Copy, PartialEq, Eq)]
 pub struct Peek {
-    pub answer: PeekAnswer,
+    pub answer: Result<PeekAnswer, Refusal>,
     pub master: PeekRow,
     pub tops: [PeekRow; TOPS_LIMIT],
     pub count: usize,
-    pub missing: MissingTop,
+    pub missing: Option<BlockIdShort>,
 }
 
 // The tops' rows, zeros after them, and the one that is missing.
@@ -56,7 +46,7 @@ pub struct Peek {
 pub(crate) struct TopRows {
     pub rows: [PeekRow; TOPS_LIMIT],
     pub count: usize,
-    pub gap: MissingTop,
+    pub gap: Option<BlockIdShort>,
 }
 
 fn zero_row() -> PeekRow
@@ -71,7 +61,7 @@ fn zero_row() -> PeekRow
 }
 
 // An answer with zeros beside it.
-fn zero_peek(answer: PeekAnswer) -> Peek
+fn zero_peek(answer: Result<PeekAnswer, Refusal>) -> Peek
     ensures { result ≡ zero_peek answer }
 {
     let row = zero_row();
@@ -80,16 +70,16 @@ fn zero_peek(answer: PeekAnswer) -> Peek
         master: row,
         tops: [row; TOPS_LIMIT],
         count: 0,
-        missing: MissingTop::Absent,
+        missing: None,
     }
 }
 
 // The view stops at an item that has no row.
 fn ended_at(rows: [PeekRow; TOPS_LIMIT], count: usize, id: BlockId) -> TopRows
-    ensures { result ≡ record { rows = rows; count = count; gap = missing_at (key id) } }
+    ensures { result ≡ record { rows = rows; count = count; gap = Some (key id) } }
 {
     let short = key(id);
-    let gap = MissingTop::At(short);
+    let gap = Some(short);
     TopRows { rows, count, gap }
 }
 
@@ -109,7 +99,7 @@ fn held_view_tops(cache: Cache, seqno: u32, tops: TopBlocks) -> TopRows
     while count < starting.count {
         let item = starting.items[count];
         let id = item.block_id;
-        let BlockPlace::At(at, place) = block_place(idents, seqnos, id) else {
+        let Some((at, place)) = block_place(idents, seqnos, id) else {
             return ended_at(rows, count, id);
         };
         let held = cache.shards[at];
@@ -125,7 +115,7 @@ fn held_view_tops(cache: Cache, seqno: u32, tops: TopBlocks) -> TopRows
         };
         count += 1;
     }
-    let gap = MissingTop::Absent;
+    let gap = None;
     TopRows { rows, count, gap }
 }
 
@@ -136,8 +126,8 @@ fn held_peek(cache: Cache, from: u32) -> Peek
 {
     let at = first_applied_master(cache.masters, from);
     let found = at.found;
-    let Place::At(_) = found else {
-        return zero_peek(PeekAnswer::Nothing);
+    let Ok(_) = found else {
+        return zero_peek(Ok(PeekAnswer::Nothing));
     };
     let entry = at.block.entry;
     let id = entry.block_id;
@@ -150,7 +140,7 @@ fn held_peek(cache: Cache, from: u32) -> Peek
     let rows = view.rows;
     let missing = view.gap;
     Peek {
-        answer: PeekAnswer::Found,
+        answer: Ok(PeekAnswer::Found),
         master,
         tops: rows,
         count: view.count,
@@ -162,10 +152,10 @@ pub fn peek_front_applied_mc_block_subgraph(cache: Cache, from: u32) -> Peek
     ensures { (peek_outcome cache result ≡ call_on cache (unlent (peek from))) × (result ≡ zeroed_peek result) }
 {
     if !sound_cache(cache) {
-        return zero_peek(PeekAnswer::Refused(1));
+        return zero_peek(Err(Refusal::Unsound));
     }
     if !seqno_fits(from) {
-        return zero_peek(PeekAnswer::Refused(2));
+        return zero_peek(Err(Refusal::SeqnoLimit));
     }
     held_peek(cache, from)
 }

@@ -1,13 +1,12 @@
 // RULES.md, The whole cache: shard groups in 8 places, by shard.
-ghost use Rattle.std.specs.Prelude.{◌≡◌, ◌<◌, ◌≤◌, take};
+ghost use Rattle.std.specs.Prelude.{◌≡◌, ◌<◌, ◌≤◌, take, map};
 ghost use Rattle.block_records.specs.arrays.Arrays.{spliced};
-ghost use Rattle.block_records.specs.rules.Lists.{each};
 ghost use Rattle.blocks_cache.specs.arrays.Shards.{ident_place, put_shard, shard_ident, shard_place, shards_over};
 
 use crate::cache::ShardGroup;
 use block_records::block_id::{ShardIdent, less_shard, same_shard, zero_shard};
 use block_records::limits::SHARDS_LIMIT;
-use block_records::place::{Place, listed_count};
+use block_records::listed::listed_count;
 
 #[derive(Clone, Copy)]
 pub struct Shards {
@@ -17,7 +16,7 @@ pub struct Shards {
 
 // The groups' shards, in their places.
 pub(crate) fn shard_idents(shards: [ShardGroup; SHARDS_LIMIT]) -> [ShardIdent; SHARDS_LIMIT]
-    ensures { result ≡ each shard_ident shards }
+    ensures { result ≡ map shard_ident shards }
 {
     let zero = zero_shard();
     let mut out = [zero; SHARDS_LIMIT];
@@ -36,7 +35,7 @@ pub(crate) fn ident_place(
     idents: [ShardIdent; SHARDS_LIMIT],
     count: usize,
     shard: ShardIdent,
-) -> Place
+) -> Result<usize, usize>
     ensures { result ≡ ident_place shard count idents }
 {
     let listed = listed_count(count, SHARDS_LIMIT);
@@ -45,13 +44,13 @@ pub(crate) fn ident_place(
         let x = idents[i];
         if !less_shard(x, shard) {
             if same_shard(x, shard) {
-                return Place::At(i);
+                return Ok(i);
             }
-            return Place::Vacant(i);
+            return Err(i);
         }
         i += 1;
     }
-    Place::Vacant(i)
+    Err(i)
 }
 
 // Where a shard's group stands, or the place where it would go in. For one search: a loop gathers the shards and asks `ident_place`.
@@ -59,7 +58,7 @@ pub(crate) fn shard_place(
     groups: [ShardGroup; SHARDS_LIMIT],
     count: usize,
     shard: ShardIdent,
-) -> Place
+) -> Result<usize, usize>
     ensures { result ≡ shard_place shard count groups }
 {
     let listed = listed_count(count, SHARDS_LIMIT);
@@ -69,13 +68,13 @@ pub(crate) fn shard_place(
         let x = g.shard;
         if !less_shard(x, shard) {
             if same_shard(x, shard) {
-                return Place::At(i);
+                return Ok(i);
             }
-            return Place::Vacant(i);
+            return Err(i);
         }
         i += 1;
     }
-    Place::Vacant(i)
+    Err(i)
 }
 
 // The groups from a place on moved one place further, and the given one put there.
@@ -111,7 +110,7 @@ pub(crate) fn put_shard(
 {
     let place = shard_place(groups, count, group.shard);
     match place {
-        Place::At(at) => {
+        Ok(at) => {
             let mut out = groups;
             out[at] = group;
             let listed = listed_count(count, SHARDS_LIMIT);
@@ -120,7 +119,7 @@ pub(crate) fn put_shard(
                 count: listed,
             }
         }
-        Place::Vacant(at) => {
+        Err(at) => {
             if count < SHARDS_LIMIT {
                 return insert_shard(groups, count, at, group);
             }

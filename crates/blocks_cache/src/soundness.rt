@@ -1,6 +1,7 @@
 // RULES.md, Soundness: question 1, of the whole cache.
+ghost use Rattle.std.specs.List.{list_all};
 ghost use Rattle.std.specs.Prelude.{◌≡◌, take, drop};
-ghost use Rattle.block_records.specs.rules.Lists.{every, rising};
+ghost use Rattle.block_records.specs.rules.Lists.{rising};
 ghost use Rattle.blocks_cache.specs.layout.Cache.{is_zero_shard_group, shard_group_before, sound_cache, sound_shard_group, sound_shards};
 
 use crate::cache::{Cache, ShardGroup};
@@ -30,7 +31,7 @@ fn sound_shard_group(group: ShardGroup) -> bool
 }
 
 fn shards_zero(shards: [ShardGroup; SHARDS_LIMIT], from: usize) -> bool
-    ensures { result ≡ every is_zero_shard_group (drop from shards) }
+    ensures { result ≡ list_all is_zero_shard_group (drop from shards) }
 {
     let mut i: usize = from;
     while i < SHARDS_LIMIT {
@@ -43,7 +44,7 @@ fn shards_zero(shards: [ShardGroup; SHARDS_LIMIT], from: usize) -> bool
 }
 
 fn shards_each_sound(shards: [ShardGroup; SHARDS_LIMIT], count: usize) -> bool
-    ensures { result ≡ every sound_shard_group (take count shards) }
+    ensures { result ≡ list_all sound_shard_group (take count shards) }
 {
     let mut i: usize = 0;
     while i < SHARDS_LIMIT {

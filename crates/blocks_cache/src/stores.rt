@@ -1,20 +1,19 @@
 // RULES.md, Collated store, Received store and Master data: the two stores.
 ghost use Rattle.std.specs.Prelude.{◌≡◌};
-ghost use Rattle.blocks_cache.specs.arrays.Stores.{collated_ids, ids_after, nothing_stored, range_end_moved, shard_held, store_candidate, store_master_candidate, store_master_receipt, store_outcome, store_receipt, store_shard_candidate, store_shard_receipt, stored_in, with_masters_and_data, with_shard_group, zeroed_store};
+ghost use Rattle.blocks_cache.specs.arrays.Stores.{collated_ids, ids_after, nothing_stored, range_end_moved, shard_held, store_candidate, store_master_candidate, store_master_receipt, store_outcome, store_receipt, store_shard_candidate, store_shard_receipt, stored_in, stored_mismatch, with_masters_and_data, with_shard_group, zeroed_store};
 ghost use Rattle.blocks_cache.specs.layout.Cache.{call_on};
 ghost use Rattle.cache_rules.specs.Calls.{store_collated, store_received, unlent};
 
 use crate::cache::{Cache, ShardGroup};
 use crate::master_data::{
-    AppliedRange, LastId, MasterData, drop_ids_from, has_place_for_id, highest_id, moved_end,
-    moved_start, put_id,
+    MasterData, drop_ids_from, has_place_for_id, highest_id, moved_end, moved_start, put_id,
 };
 use crate::shards::{put_shard, shard_place};
 use crate::soundness::sound_cache;
-use block_records::block_id::{BlockId, ShardIdent, id_shard, is_masterchain, same_id, zero_id};
+use block_records::block_id::{BlockId, ShardIdent, id_shard, is_masterchain, same_id};
 use block_records::limits::SHARDS_LIMIT;
-use block_records::place::Place;
-use block_records::questions::{Refusal, candidate_refusal, received_refusal};
+use block_records::questions::{Refusal, check_candidate, check_received};
+use block_records::range::AppliedRange;
 use block_records::store_records::{BlockCandidate, ReceivedBlock};
 use blocks_group::group::{Group, MasterGroup, zero_group};
 use blocks_group::store::{
@@ -22,12 +21,12 @@ use blocks_group::store::{
     store_received_master,
 };
 
-// What a store leaves and answers. Synced and refusals carry no further values: the id is absent, over zeros, and so is the range.
-#[derive(Clone, Copy)]
+// What a store leaves and answers. Synced and refusals carry no further values: id and range are absent.
+#[derive(Clone, Copy, PartialEq, Eq)]
 pub struct BlockCacheStoreResult {
-    pub answer: StoreAnswer,
-    pub last_collated_mc_block_id: LastId,
-    pub applied_mc_queue_range: AppliedRange,
+    pub answer: Result<StoreAnswer, Refusal>,
+    pub last_collated_mc_block_id: Option<BlockId>,
+    pub applied_mc_queue_range: Option<AppliedRange>,
     pub cache: Cache,
 }
 
@@ -41,21 +40,29 @@ pub(crate) struct ShardHeld {
 // ===== the answers =====
 
 // Synced or refused: the cache as it was.
-fn nothing_stored(cache: Cache, answer: StoreAnswer) -> BlockCacheStoreResult
+fn nothing_stored(cache: Cache, answer: Result<StoreAnswer, Refusal>) -> BlockCacheStoreResult
     ensures { result ≡ nothing_stored answer cache }
 {
-    let id = zero_id();
-    let last = LastId { present: false, id };
     BlockCacheStoreResult {
         answer,
-        last_collated_mc_block_id: last,
-        applied_mc_queue_range: AppliedRange::Absent,
+        last_collated_mc_block_id: None,
+        applied_mc_queue_range: None,
         cache,
     }
 }
 
+// Of a block that is stored, whether another stood in its place; nothing of one that is not.
+fn stored_mismatch(answer: Result<StoreAnswer, Refusal>) -> Option<bool>
+    ensures { result ≡ stored_mismatch answer }
+{
+    match answer {
+        Ok(StoreAnswer::Stored { block_mismatch, .. }) => Some(block_mismatch),
+        Ok(StoreAnswer::Synced) | Err(_) => None,
+    }
+}
+
 // Stored: with the last id and the range of the cache as it is left.
-fn stored_in(cache: Cache, answer: StoreAnswer) -> BlockCacheStoreResult
+fn stored_in(cache: Cache, answer: Result<StoreAnswer, Refusal>) -> BlockCacheStoreResult
     ensures { result ≡ stored_in answer cache }
 {
     let data = cache.data;
@@ -101,12 +108,12 @@ fn shard_held(groups: [ShardGroup; SHARDS_LIMIT], count: usize, shard: ShardIden
 {
     let place = shard_place(groups, count, shard);
     match place {
-        Place::At(at) => {
+        Ok(at) => {
             let found = groups[at];
             let group = found.group;
             ShardHeld { room: true, group }
         }
-        Place::Vacant(_) => {
+        Err(_) => {
             let group = zero_group();
             ShardHeld {
                 room: count < SHARDS_LIMIT,
@@ -124,13 +131,13 @@ fn collated_ids(data: MasterData, id: BlockId) -> MasterData
 {
     let range = data.range;
     let moved = moved_start(id.seqno, range);
-    let ids = data.ids;
-    let started = MasterData {
-        ids,
-        count: data.count,
-        range: moved,
-    };
-    put_id(started, id)
+    put_id(
+        MasterData {
+            range: moved,
+            ..data
+        },
+        id,
+    )
 }
 
 // On a mismatch the ids below a seqno are left.
@@ -149,11 +156,9 @@ fn range_end_moved(data: MasterData, seqno: u32) -> MasterData
 {
     let range = data.range;
     let moved = moved_end(seqno, range);
-    let ids = data.ids;
     MasterData {
-        ids,
-        count: data.count,
         range: moved,
+        ..data
     }
 }
 
@@ -165,11 +170,7 @@ fn store_master_candidate(cache: Cache, candidate: BlockCandidate) -> BlockCache
 {
     let store = store_collated_master(cache.masters, candidate);
     let answer = store.answer;
-    let StoreAnswer::Stored {
-        received_and_collated: _,
-        block_mismatch,
-    } = answer
-    else {
+    let Some(block_mismatch) = stored_mismatch(answer) else {
         return nothing_stored(cache, answer);
     };
     if block_mismatch {
@@ -177,7 +178,7 @@ fn store_master_candidate(cache: Cache, candidate: BlockCandidate) -> BlockCache
     }
     let data = cache.data;
     if !has_place_for_id(data, candidate.block_id.seqno) {
-        return nothing_stored(cache, StoreAnswer::Refused(9));
+        return nothing_stored(cache, Err(Refusal::NoIdRoom));
     }
     let collated = collated_ids(data, candidate.block_id);
     let new = with_masters_and_data(cache, store.masters, collated);
@@ -192,15 +193,11 @@ fn store_shard_candidate(cache: Cache, candidate: BlockCandidate) -> BlockCacheS
     let groups = cache.shards;
     let held = shard_held(groups, cache.shard_count, shard);
     if !held.room {
-        return nothing_stored(cache, StoreAnswer::Refused(8));
+        return nothing_stored(cache, Err(Refusal::NoRoom));
     }
     let store = store_collated_block(held.group, candidate);
     let answer = store.answer;
-    let StoreAnswer::Stored {
-        received_and_collated: _,
-        block_mismatch,
-    } = answer
-    else {
+    let Some(block_mismatch) = stored_mismatch(answer) else {
         return nothing_stored(cache, answer);
     };
     if block_mismatch {
@@ -228,11 +225,10 @@ pub fn store_collated(cache: Cache, candidate: BlockCandidate) -> BlockCacheStor
     ensures { (store_outcome result ≡ call_on cache (unlent (store_collated candidate))) × (result ≡ zeroed_store result) }
 {
     if !sound_cache(cache) {
-        return nothing_stored(cache, StoreAnswer::Refused(1));
+        return nothing_stored(cache, Err(Refusal::Unsound));
     }
-    let refusal = candidate_refusal(candidate);
-    if let Refusal::Number(number) = refusal {
-        return nothing_stored(cache, StoreAnswer::Refused(number));
+    if let Err(refusal) = check_candidate(candidate) {
+        return nothing_stored(cache, Err(refusal));
     }
     store_candidate(cache, candidate)
 }
@@ -245,11 +241,7 @@ fn store_master_receipt(cache: Cache, received: ReceivedBlock) -> BlockCacheStor
 {
     let store = store_received_master(cache.zerostate_mc_seqno, cache.masters, received);
     let answer = store.answer;
-    let StoreAnswer::Stored {
-        received_and_collated: _,
-        block_mismatch,
-    } = answer
-    else {
+    let Some(block_mismatch) = stored_mismatch(answer) else {
         return nothing_stored(cache, answer);
     };
     let seqno = received.block_id.seqno;
@@ -267,15 +259,11 @@ fn store_shard_receipt(cache: Cache, received: ReceivedBlock) -> BlockCacheStore
     let groups = cache.shards;
     let held = shard_held(groups, cache.shard_count, shard);
     if !held.room {
-        return nothing_stored(cache, StoreAnswer::Refused(8));
+        return nothing_stored(cache, Err(Refusal::NoRoom));
     }
     let store = store_received_block(cache.zerostate_mc_seqno, held.group, received);
     let answer = store.answer;
-    let StoreAnswer::Stored {
-        received_and_collated: _,
-        block_mismatch,
-    } = answer
-    else {
+    let Some(block_mismatch) = stored_mismatch(answer) else {
         return nothing_stored(cache, answer);
     };
     let group = store.group;
@@ -290,12 +278,12 @@ fn store_receipt(cache: Cache, received: ReceivedBlock) -> BlockCacheStoreResult
     ensures { result ≡ store_receipt received cache }
 {
     if received.ref_block_id.seqno < cache.zerostate_mc_seqno {
-        return nothing_stored(cache, StoreAnswer::Refused(5));
+        return nothing_stored(cache, Err(Refusal::BeforeZerostate));
     }
     let shard = id_shard(received.block_id);
     if is_masterchain(shard) {
         if !same_id(received.block_id, received.ref_block_id) {
-            return nothing_stored(cache, StoreAnswer::Refused(6));
+            return nothing_stored(cache, Err(Refusal::ForeignReference));
         }
         return store_master_receipt(cache, received);
     }
@@ -307,11 +295,10 @@ pub fn store_received(cache: Cache, received: ReceivedBlock) -> BlockCacheStoreR
     ensures { (store_outcome result ≡ call_on cache (unlent (store_received received))) × (result ≡ zeroed_store result) }
 {
     if !sound_cache(cache) {
-        return nothing_stored(cache, StoreAnswer::Refused(1));
+        return nothing_stored(cache, Err(Refusal::Unsound));
     }
-    let refusal = received_refusal(received);
-    if let Refusal::Number(number) = refusal {
-        return nothing_stored(cache, StoreAnswer::Refused(number));
+    if let Err(refusal) = check_received(received) {
+        return nothing_stored(cache, Err(refusal));
     }
     store_receipt(cache, received)
 }

@@ -1,18 +1,18 @@
 // RULES.md, Tail ids: the walk, and the rows that come of it.
-ghost use Rattle.std.specs.Prelude.{◌≡◌, ◌≤◌, true, [], ◌∷◌, length, take};
+ghost use Rattle.std.specs.List.{fold};
+ghost use Rattle.std.specs.Prelude.{◌≡◌, ◌≤◌, true, [], ◌∷◌, length, take, map};
 ghost use Rattle.block_records.specs.arrays.Arrays.{Splices, spliced};
 ghost use Rattle.block_records.specs.layout.Entry.{pack_prev_ids};
 ghost use Rattle.block_records.specs.rules.BlockId.{listed_prev_ids, listed_tops};
-ghost use Rattle.block_records.specs.rules.Lists.{each, fold};
-ghost use Rattle.blocks_cache.specs.arrays.TailIds.{block_tails, cached_row, fingerprint, first_state, fresh_ids, has_number, hold_row, less_last, listed_tails, missing_row, no_tails, pack_walk, read_tails, replaces_last, row_place, tail_outcome, take_queued, take_tail_id, two_ids, walk_state, with_rows, zero_tail, zeroed_tails};
+ghost use Rattle.blocks_cache.specs.arrays.TailIds.{block_tails, cached_row, fingerprint, first_state, fresh_ids, has_number, hold_row, listed_tails, missing_row, no_tails, pack_walk, read_tails, replaces_last, row_place, tail_outcome, take_queued, take_tail_id, two_ids, walk_state, with_rows, zero_tail, zeroed_tails};
 ghost use Rattle.blocks_cache.specs.layout.Cache.{call_on, sound_cache};
 ghost use Rattle.cache_rules.specs.Calls.{read_tail_ids, unlent};
 ghost use Rattle.cache_rules.specs.Extraction.{top_id};
+ghost use Rattle.cache_rules.specs.TailIds.{less_option};
 ghost use Rattle.cache_rules.specs.TailIdsOnce.{knows};
 
 use crate::cache::Cache;
-use crate::lookup::{BlockPlace, block_place, shard_seqnos};
-use crate::master_data::LastId;
+use crate::lookup::{block_place, shard_seqnos};
 use crate::shards::shard_idents;
 use crate::soundness::sound_cache;
 use block_records::block_id::{
@@ -23,22 +23,22 @@ use block_records::entry::MasterBlock;
 use block_records::limits::{
     PREV_IDS_LIMIT, QUEUED_FULL, QUEUED_LIMIT, QUEUED_PLACES, ROWS_LIMIT, TOPS_LIMIT,
 };
-use block_records::place::{Place, listed_count};
-use block_records::questions::key_fits;
+use block_records::listed::{Listed, listed_count};
+use block_records::questions::{Refusal, key_fits};
 use block_records::store_records::{PrevIds, stored_prev_ids, zero_prev_ids};
 use block_records::top_block::TopBlocks;
 use blocks_group::group::master_at;
 
-// Of a shard: an id or absent over zeros, and previous ids.
-#[derive(Clone, Copy)]
+// Of a shard: an id or none, and previous ids.
+#[derive(Clone, Copy, PartialEq, Eq)]
 pub struct TailIdsRow {
     pub shard: ShardIdent,
-    pub id: LastId,
+    pub id: Option<BlockId>,
     pub prev_ids: PrevIds,
 }
 
 // The rows in 17 places, by shard.
-#[derive(Clone, Copy)]
+#[derive(Clone, Copy, PartialEq, Eq)]
 pub struct TailRows {
     pub rows: [TailIdsRow; ROWS_LIMIT],
     pub count: usize,
@@ -53,16 +53,10 @@ pub(crate) struct TailWalk {
     pub count: usize,
 }
 
-#[derive(Clone, Copy)]
-pub enum TailAnswer {
-    Rows,
-    Refused(u32),
-}
-
 // The rows, zeros in the places that are left; none beside a refusal.
-#[derive(Clone, Copy)]
+#[derive(Clone, Copy, PartialEq, Eq)]
 pub struct TailIds {
-    pub answer: TailAnswer,
+    pub answer: Result<(), Refusal>,
     pub tails: TailRows,
 }
 
@@ -72,21 +66,16 @@ fn zero_tail() -> TailIdsRow
     ensures { result ≡ zero_tail }
 {
     let shard = zero_shard();
-    let zero = zero_id();
-    let id = LastId {
-        present: false,
-        id: zero,
-    };
     let prev_ids = zero_prev_ids();
     TailIdsRow {
         shard,
-        id,
+        id: None,
         prev_ids,
     }
 }
 
 // Where a shard's row stands, or the place where it would go in.
-fn row_place(tails: TailRows, shard: ShardIdent) -> Place
+fn row_place(tails: TailRows, shard: ShardIdent) -> Result<usize, usize>
     ensures { result ≡ row_place shard tails }
 {
     let listed = listed_count(tails.count, ROWS_LIMIT);
@@ -96,13 +85,13 @@ fn row_place(tails: TailRows, shard: ShardIdent) -> Place
         let x = row.shard;
         if !less_shard(x, shard) {
             if same_shard(x, shard) {
-                return Place::At(i);
+                return Ok(i);
             }
-            return Place::Vacant(i);
+            return Err(i);
         }
         i += 1;
     }
-    Place::Vacant(i)
+    Err(i)
 }
 
 // The first `at` rows, the given one, and those of place `from` on.
@@ -129,19 +118,18 @@ fn put_row_at(tails: TailRows, at: usize, from: usize, row: TailIdsRow) -> TailR
 }
 
 // Whether an id comes before another; an absent one comes before all that are present.
-fn less_last(a: LastId, b: LastId) -> bool
-    ensures { result ≡ less_last a b }
+fn less_last(a: Option<BlockId>, b: Option<BlockId>) -> bool
+    ensures { result ≡ less_option a b }
 {
-    let less = less_id(a.id, b.id);
-    b.present & (!a.present | less)
+    a < b
 }
 
 // Whether an id takes the place of one held: that one is absent, or this one comes before it.
-fn replaces_last(id: LastId, held: LastId) -> bool
+fn replaces_last(id: Option<BlockId>, held: Option<BlockId>) -> bool
     ensures { result ≡ replaces_last id held }
 {
     let less = less_last(id, held);
-    !held.present | less
+    held.is_none() | less
 }
 
 // The row goes to its shard's place, if none is held there or its id takes the place of the one held. Where 17 are listed and none is of the shard,
@@ -151,7 +139,7 @@ fn hold_row(tails: TailRows, row: TailIdsRow) -> TailRows
 {
     let place = row_place(tails, row.shard);
     match place {
-        Place::At(at) => {
+        Ok(at) => {
             let held = tails.rows[at];
             if replaces_last(row.id, held.id) {
                 let mut out = tails;
@@ -160,7 +148,7 @@ fn hold_row(tails: TailRows, row: TailIdsRow) -> TailRows
             }
             tails
         }
-        Place::Vacant(at) => {
+        Err(at) => {
             if tails.count < ROWS_LIMIT {
                 return put_row_at(tails, at, at, row);
             }
@@ -176,10 +164,9 @@ fn cached_row(id: BlockId, prev_ids: PrevIds) -> TailIdsRow
     ensures { result ≡ cached_row id prev_ids }
 {
     let shard = id_shard(id);
-    let id = LastId { present: true, id };
     TailIdsRow {
         shard,
-        id,
+        id: Some(id),
         prev_ids,
     }
 }
@@ -192,14 +179,13 @@ fn missing_row(id: BlockId) -> TailIdsRow
     let zero = zero_id();
     let mut ids = [zero; PREV_IDS_LIMIT];
     ids[0] = id;
-    let id = LastId {
-        present: false,
-        id: zero,
+    let prev_ids = Listed {
+        count: 1,
+        items: ids,
     };
-    let prev_ids = PrevIds { ids, count: 1 };
     TailIdsRow {
         shard,
-        id,
+        id: None,
         prev_ids,
     }
 }
@@ -234,23 +220,35 @@ fn two_ids(first: BlockId, takes_first: bool, second: BlockId, takes_second: boo
         ids[0] = first;
         if takes_second {
             ids[1] = second;
-            return PrevIds { ids, count: 2 };
+            return Listed {
+                count: 2,
+                items: ids,
+            };
         }
-        return PrevIds { ids, count: 1 };
+        return Listed {
+            count: 1,
+            items: ids,
+        };
     }
     if takes_second {
         ids[0] = second;
-        return PrevIds { ids, count: 1 };
+        return Listed {
+            count: 1,
+            items: ids,
+        };
     }
-    PrevIds { ids, count: 0 }
+    Listed {
+        count: 0,
+        items: ids,
+    }
 }
 
 // Of the previous ids those that are not known yet, each once; none where 256 places would not hold them.
 fn fresh_ids(ids: [BlockId; QUEUED_PLACES], count: usize, prev: PrevIds) -> PrevIds
     ensures { result ≡ pack_prev_ids (fresh_ids (take count ids) (listed_prev_ids prev)) }
 {
-    let first = prev.ids[0];
-    let second = prev.ids[1];
+    let first = prev.items[0];
+    let second = prev.items[1];
     let known = knows(ids, count, first);
     let takes_first = (0 < prev.count) & !known;
     let known = knows(ids, count, second);
@@ -267,7 +265,7 @@ fn fresh_ids(ids: [BlockId; QUEUED_PLACES], count: usize, prev: PrevIds) -> Prev
 fn fingerprint(id: BlockId) -> u64
     ensures { result ≡ fingerprint id }
 {
-    std::num::wrapping_add_u64(id.prefix, id.seqno as u64)
+    std::num::wrapping_add_u64(id.shard.prefix, id.seqno as u64)
 }
 
 // Whether a number is among others.
@@ -290,11 +288,11 @@ fn next_ids(
     count: usize,
     prev: PrevIds,
 ) -> PrevIds
-    requires { fingerprints.now ≡ each fingerprint (take count ids) }
+    requires { fingerprints.now ≡ map fingerprint (take count ids) }
     ensures { result ≡ pack_prev_ids (fresh_ids (take count ids) (listed_prev_ids prev)) }
 {
-    let first = fingerprint(prev.ids[0]);
-    let second = fingerprint(prev.ids[1]);
+    let first = fingerprint(prev.items[0]);
+    let second = fingerprint(prev.items[1]);
     let a = has_number(fingerprints, first);
     let b = has_number(fingerprints, second);
     if a | b | (first == second) | (QUEUED_FULL < count) {
@@ -318,7 +316,7 @@ fn one_row(row: TailIdsRow) -> TailRows
 // The tops one by one, after the master's own row; one of seqno 0 gives nothing.
 fn take_tops(cache: Cache, mc_seqno: u32, first: TailIdsRow, tops: TopBlocks) -> TailWalk
     requires { sound_cache cache ≡ true }
-    ensures { result ≡ pack_walk (fold (take_tail_id cache mc_seqno true) (first_state first) (each top_id (listed_tops tops))) }
+    ensures { result ≡ pack_walk (fold (take_tail_id cache mc_seqno true) (first_state first) (map top_id (listed_tops tops))) }
 {
     let shards = cache.shards;
     let idents = shard_idents(shards);
@@ -337,7 +335,7 @@ fn take_tops(cache: Cache, mc_seqno: u32, first: TailIdsRow, tops: TopBlocks) ->
         if id.seqno == 0 {
             continue;
         }
-        let BlockPlace::At(at, place) = block_place(idents, seqnos, id) else {
+        let Some((at, place)) = block_place(idents, seqnos, id) else {
             let row = missing_row(id);
             tails = hold_row(tails, row);
             continue;
@@ -348,10 +346,10 @@ fn take_tops(cache: Cache, mc_seqno: u32, first: TailIdsRow, tops: TopBlocks) ->
         let row = cached_row(id, block.prev_ids);
         tails = hold_row(tails, row);
         let fresh = next_ids(ids, &fingerprints[..count], count, block.prev_ids);
-        ids[count] = fresh.ids[0];
-        ids[count + 1] = fresh.ids[1];
-        fingerprints[count] = fingerprint(fresh.ids[0]);
-        fingerprints[count + 1] = fingerprint(fresh.ids[1]);
+        ids[count] = fresh.items[0];
+        ids[count + 1] = fresh.items[1];
+        fingerprints[count] = fingerprint(fresh.items[0]);
+        fingerprints[count + 1] = fingerprint(fresh.items[1]);
         count += fresh.count;
     }
     TailWalk {
@@ -381,7 +379,7 @@ fn take_queued(cache: Cache, mc_seqno: u32, walk: TailWalk) -> TailRows
         if id.seqno == 0 {
             continue;
         }
-        let BlockPlace::At(at, place) = block_place(idents, seqnos, id) else {
+        let Some((at, place)) = block_place(idents, seqnos, id) else {
             continue;
         };
         let held = cache.shards[at];
@@ -391,13 +389,13 @@ fn take_queued(cache: Cache, mc_seqno: u32, walk: TailWalk) -> TailRows
             continue;
         }
         let fresh = next_ids(ids, &fingerprints[..count], count, block.prev_ids);
-        ids[count] = fresh.ids[0];
-        ids[count + 1] = fresh.ids[1];
-        fingerprints[count] = fingerprint(fresh.ids[0]);
-        fingerprints[count + 1] = fingerprint(fresh.ids[1]);
+        ids[count] = fresh.items[0];
+        ids[count + 1] = fresh.items[1];
+        fingerprints[count] = fingerprint(fresh.items[0]);
+        fingerprints[count + 1] = fingerprint(fresh.items[1]);
         count += fresh.count;
         let row = cached_row(id, block.prev_ids);
-        let Place::At(at) = row_place(tails, row.shard) else {
+        let Ok(at) = row_place(tails, row.shard) else {
             tails = hold_row(tails, row);
             continue;
         };
@@ -423,7 +421,7 @@ fn block_tails(cache: Cache, block: MasterBlock) -> TailRows
 }
 
 // An answer with no row beside it.
-fn no_tails(answer: TailAnswer) -> TailIds
+fn no_tails(answer: Result<(), Refusal>) -> TailIds
     ensures { result ≡ no_tails answer }
 {
     let zero = zero_tail();
@@ -440,16 +438,16 @@ fn read_tails(cache: Cache, seqno: u32) -> TailIds
     ensures { result ≡ read_tails seqno cache }
 {
     if seqno <= cache.zerostate_mc_seqno {
-        return no_tails(TailAnswer::Rows);
+        return no_tails(Ok(()));
     }
     let at = master_at(cache.masters, seqno);
     let found = at.found;
-    let Place::At(_) = found else {
-        return no_tails(TailAnswer::Refused(12));
+    let Ok(_) = found else {
+        return no_tails(Err(Refusal::NoMaster));
     };
     let tails = block_tails(cache, at.block);
     TailIds {
-        answer: TailAnswer::Rows,
+        answer: Ok(()),
         tails,
     }
 }
@@ -458,10 +456,10 @@ pub fn read_before_tail_ids_of_mc_block(cache: Cache, short: BlockIdShort) -> Ta
     ensures { (tail_outcome cache result ≡ call_on cache (unlent (read_tail_ids short))) × (result ≡ zeroed_tails result) }
 {
     if !sound_cache(cache) {
-        return no_tails(TailAnswer::Refused(1));
+        return no_tails(Err(Refusal::Unsound));
     }
     if !key_fits(short) {
-        return no_tails(TailAnswer::Refused(2));
+        return no_tails(Err(Refusal::SeqnoLimit));
     }
     read_tails(cache, short.seqno)
 }

@@ -12,26 +12,24 @@ use block_records::block_id::BlockId;
 use block_records::entry::{
     BlockCacheEntryData, CandidateStatus, MasterBlock, same_status, with_data,
 };
-use block_records::place::Place;
-use block_records::questions::id_fits;
+use block_records::questions::{Refusal, id_fits};
 use blocks_group::group::{MasterGroup, master_at, put_master};
 
-#[derive(Clone, Copy)]
+#[derive(Clone, Copy, PartialEq, Eq)]
 pub enum ValidationStatus {
     Complete { signatures: u64, total_weight: u64 },
     Skipped,
 }
 
-#[derive(Clone, Copy)]
+#[derive(Clone, Copy, PartialEq, Eq)]
 pub enum ValidationAnswer {
     Updated(CandidateStatus),
     NoChange,
-    Refused(u32),
 }
 
-#[derive(Clone, Copy)]
+#[derive(Clone, Copy, PartialEq, Eq)]
 pub struct ValidationResult {
-    pub answer: ValidationAnswer,
+    pub answer: Result<ValidationAnswer, Refusal>,
     pub cache: Cache,
 }
 
@@ -134,9 +132,9 @@ fn validate_master(cache: Cache, seqno: u32, status: ValidationStatus) -> Valida
 {
     let at = master_at(cache.masters, seqno);
     let found = at.found;
-    let Place::At(_) = found else {
+    let Ok(_) = found else {
         return ValidationResult {
-            answer: ValidationAnswer::NoChange,
+            answer: Ok(ValidationAnswer::NoChange),
             cache,
         };
     };
@@ -145,7 +143,7 @@ fn validate_master(cache: Cache, seqno: u32, status: ValidationStatus) -> Valida
     let kind = validated_kind(status, data);
     if !kind.changed {
         return ValidationResult {
-            answer: ValidationAnswer::NoChange,
+            answer: Ok(ValidationAnswer::NoChange),
             cache,
         };
     }
@@ -156,7 +154,7 @@ fn validate_master(cache: Cache, seqno: u32, status: ValidationStatus) -> Valida
     let cache = with_master_group(cache, masters);
     let new = result_status(status);
     ValidationResult {
-        answer: ValidationAnswer::Updated(new),
+        answer: Ok(ValidationAnswer::Updated(new)),
         cache,
     }
 }
@@ -171,13 +169,13 @@ pub fn store_master_block_validation_result(
 {
     if !sound_cache(cache) {
         return ValidationResult {
-            answer: ValidationAnswer::Refused(1),
+            answer: Err(Refusal::Unsound),
             cache,
         };
     }
     if !id_fits(block_id) {
         return ValidationResult {
-            answer: ValidationAnswer::Refused(2),
+            answer: Err(Refusal::SeqnoLimit),
             cache,
         };
     }

@@ -1,34 +1,27 @@
 // RULES.md, Groups: entries in 16 places, by seqno. The master group has its blocks' top items beside it, in the same places.
-ghost use Rattle.std.specs.Prelude.{false, ◌≡◌, length, take};
+ghost use Rattle.std.specs.Prelude.{false, ◌≡◌, length, take, map};
 ghost use Rattle.block_records.specs.arrays.Arrays.{Splices, flagged, spliced};
 ghost use Rattle.block_records.specs.layout.Zeros.{zero_tops};
-ghost use Rattle.block_records.specs.rules.Lists.{each, padded};
+ghost use Rattle.block_records.specs.rules.Lists.{padded};
 ghost use Rattle.blocks_group.specs.arrays.Group.{entry_at, entry_place, listed_entries, listed_masters, master_at, master_in_place, put_entry, put_master, remove_master, retain_entries, retain_masters, retains, set_group_boundary, set_master_boundary, with_master_blocks, with_records};
 ghost use Rattle.blocks_group.specs.layout.Group.{zero_group, zero_master_group};
 
-use crate::mark::Mark;
 use crate::search::search;
 use block_records::block_id::BlockIdShort;
 use block_records::entry::{BlockCacheEntry, MasterBlock, held_received, zero_entry, zero_master};
 use block_records::limits::ENTRIES_LIMIT;
-use block_records::place::{Place, listed_count};
+use block_records::listed::listed_count;
 use block_records::top_block::{TopBlocks, zero_tops};
 
-#[derive(Clone, Copy)]
-pub enum Boundary {
-    Absent,
-    At(BlockIdShort),
-}
-
-#[derive(Clone, Copy)]
+#[derive(Clone, Copy, PartialEq, Eq)]
 pub struct Group {
     pub entries: [BlockCacheEntry; ENTRIES_LIMIT],
     pub count: usize,
-    pub mark: Mark,
-    pub boundary: Boundary,
+    pub mark: Option<u32>,
+    pub boundary: Option<BlockIdShort>,
 }
 
-#[derive(Clone, Copy)]
+#[derive(Clone, Copy, PartialEq, Eq)]
 pub struct MasterGroup {
     pub group: Group,
     pub tops: [TopBlocks; ENTRIES_LIMIT],
@@ -37,13 +30,13 @@ pub struct MasterGroup {
 // What stands at a seqno; zeros where nothing does.
 #[derive(Clone, Copy)]
 pub struct EntryAt {
-    pub found: Place,
+    pub found: Result<usize, usize>,
     pub entry: BlockCacheEntry,
 }
 
 #[derive(Clone, Copy)]
 pub struct MasterAt {
-    pub found: Place,
+    pub found: Result<usize, usize>,
     pub block: MasterBlock,
 }
 
@@ -62,8 +55,8 @@ pub fn zero_group() -> Group
     Group {
         entries: [entry; ENTRIES_LIMIT],
         count: 0,
-        mark: Mark::Absent,
-        boundary: Boundary::Absent,
+        mark: None,
+        boundary: None,
     }
 }
 
@@ -79,7 +72,7 @@ pub fn zero_master_group() -> MasterGroup
 }
 
 // Where an entry of this seqno stands, or the place where it would go in.
-fn entry_place(group: Group, seqno: u32) -> Place
+fn entry_place(group: Group, seqno: u32) -> Result<usize, usize>
     ensures { result ≡ entry_place seqno group }
 {
     let count = listed_count(group.count, ENTRIES_LIMIT);
@@ -97,7 +90,7 @@ pub fn entry_at(group: Group, seqno: u32) -> EntryAt
     ensures { result ≡ entry_at seqno group }
 {
     let found = entry_place(group, seqno);
-    let Place::At(at) = found else {
+    let Ok(at) = found else {
         let zero = zero_entry();
         return EntryAt { found, entry: zero };
     };
@@ -126,7 +119,7 @@ pub fn master_at(masters: MasterGroup, seqno: u32) -> MasterAt
     ensures { result ≡ master_at seqno masters }
 {
     let found = entry_place(masters.group, seqno);
-    let Place::At(at) = found else {
+    let Ok(at) = found else {
         let zero = zero_master();
         return MasterAt { found, block: zero };
     };
@@ -213,8 +206,8 @@ pub(crate) fn put_entry(group: Group, entry: BlockCacheEntry) -> Group
 {
     let found = entry_place(group, entry.block_id.seqno);
     match found {
-        Place::At(at) => put_entry_at(group, at, at + 1, entry),
-        Place::Vacant(at) => {
+        Ok(at) => put_entry_at(group, at, at + 1, entry),
+        Err(at) => {
             if group.count < ENTRIES_LIMIT {
                 return put_entry_at(group, at, at, entry);
             }
@@ -229,8 +222,8 @@ pub fn put_master(masters: MasterGroup, block: MasterBlock) -> MasterGroup
 {
     let found = entry_place(masters.group, block.entry.block_id.seqno);
     match found {
-        Place::At(at) => put_master_at(masters, at, at + 1, block),
-        Place::Vacant(at) => {
+        Ok(at) => put_master_at(masters, at, at + 1, block),
+        Err(at) => {
             if masters.group.count < ENTRIES_LIMIT {
                 return put_master_at(masters, at, at, block);
             }
@@ -254,7 +247,7 @@ fn retains(rule: Retained, entry: BlockCacheEntry) -> bool
 
 // A flag for each listed entry that stays.
 fn keep_flags(group: Group, rule: Retained) -> [bool; ENTRIES_LIMIT]
-    ensures { result ≡ padded 16 false (each (retains rule) (listed_entries group)) }
+    ensures { result ≡ padded 16 false (map (retains rule) (listed_entries group)) }
 {
     let count = listed_count(group.count, ENTRIES_LIMIT);
     let mut keep = [false; ENTRIES_LIMIT];
@@ -348,7 +341,7 @@ pub fn set_group_boundary(group: Group, key: BlockIdShort) -> Group
 {
     let entries = group.entries;
     let mark = group.mark;
-    let boundary = Boundary::At(key);
+    let boundary = Some(key);
     Group {
         entries,
         count: group.count,

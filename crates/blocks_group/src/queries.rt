@@ -1,23 +1,13 @@
 // RULES.md, Pop, Peek, Boundary and collection and Removal of collated blocks: what they ask of one group.
-ghost use Rattle.std.specs.Prelude.{◌≡◌, ltb};
-ghost use Rattle.block_records.specs.rules.Lists.{pick};
+ghost use Rattle.std.specs.Prelude.{◌≡◌, ltb, cond};
 ghost use Rattle.blocks_group.specs.arrays.Group.{held_seqno};
-ghost use Rattle.blocks_group.specs.arrays.Queries.{any_applied_above, chosen, collect_group, collect_masters, first_applied_master, first_applied_place, held_applied_above, held_applied_from, held_below, held_collated_above, higher_of, highest_below_boundary, highest_seqno, lower_of, lowest_collated_above, pack_seqno, remove_collated_above, remove_collated_masters_above, seqnos_of, view_seqno};
+ghost use Rattle.blocks_group.specs.arrays.Queries.{any_applied_above, chosen, collect_group, collect_masters, first_applied_master, first_applied_place, held_applied_above, held_applied_from, held_below, held_collated_above, higher_of, highest_below_boundary, highest_seqno, lower_of, lowest_collated_above, remove_collated_above, remove_collated_masters_above, seqnos_of};
 
 use crate::group::{
-    Boundary, Group, MasterAt, MasterGroup, Retained, master_in_place, retain_entries,
-    retain_masters,
+    Group, MasterAt, MasterGroup, Retained, master_in_place, retain_entries, retain_masters,
 };
 use block_records::entry::{BlockCacheEntry, held_applied, held_received, zero_master};
 use block_records::limits::ENTRIES_LIMIT;
-use block_records::place::Place;
-
-// A seqno, or none.
-#[derive(Clone, Copy)]
-pub enum SeqnoOption {
-    Absent,
-    At(u32),
-}
 
 // ===== applied entries =====
 
@@ -36,21 +26,21 @@ fn held_applied_above(entry: BlockCacheEntry, seqno: u32) -> bool
 }
 
 // The place of the first applied entry from a seqno on.
-fn first_applied_place(group: Group, from: u32) -> Place
+fn first_applied_place(group: Group, from: u32) -> Result<usize, usize>
     ensures { result ≡ first_applied_place from group }
 {
     let count = group.count;
     let mut i: usize = 0;
     while i < ENTRIES_LIMIT {
         if count <= i {
-            return Place::Vacant(i);
+            return Err(i);
         }
         if held_applied_from(group.entries[i], from) {
-            return Place::At(i);
+            return Ok(i);
         }
         i += 1;
     }
-    Place::Vacant(i)
+    Err(i)
 }
 
 // The master block of that place, with its top items.
@@ -58,7 +48,7 @@ pub fn first_applied_master(masters: MasterGroup, from: u32) -> MasterAt
     ensures { result ≡ first_applied_master from masters }
 {
     let found = first_applied_place(masters.group, from);
-    let Place::At(at) = found else {
+    let Ok(at) = found else {
         let zero = zero_master();
         return MasterAt { found, block: zero };
     };
@@ -87,30 +77,30 @@ pub fn any_applied_above(group: Group, seqno: u32) -> bool
 // ===== collect =====
 
 // One entry more: its seqno if it is below the limit and above the best so far.
-fn higher_below(best: SeqnoOption, seqno: u32, limit: u32) -> SeqnoOption
-    ensures { result ≡ pick (ltb seqno limit) (pack_seqno (chosen higher_of (view_seqno best) seqno)) best }
+fn higher_below(best: Option<u32>, seqno: u32, limit: u32) -> Option<u32>
+    ensures { result ≡ cond (ltb seqno limit) (chosen higher_of best seqno) best }
 {
     if limit <= seqno {
         return best;
     }
     match best {
-        SeqnoOption::Absent => SeqnoOption::At(seqno),
-        SeqnoOption::At(known) => {
+        None => Some(seqno),
+        Some(known) => {
             if known < seqno {
-                SeqnoOption::At(seqno)
+                Some(seqno)
             } else {
-                SeqnoOption::At(known)
+                Some(known)
             }
         }
     }
 }
 
 // The highest seqno of the entries below a seqno.
-fn highest_below(group: Group, limit: u32) -> SeqnoOption
-    ensures { result ≡ pack_seqno (highest_seqno (seqnos_of (held_below limit) group)) }
+fn highest_below(group: Group, limit: u32) -> Option<u32>
+    ensures { result ≡ highest_seqno (seqnos_of (held_below limit) group) }
 {
     let count = group.count;
-    let mut best = SeqnoOption::Absent;
+    let mut best = None;
     let mut i: usize = 0;
     while i < ENTRIES_LIMIT {
         if count <= i {
@@ -124,12 +114,12 @@ fn highest_below(group: Group, limit: u32) -> SeqnoOption
 }
 
 // The highest seqno of the entries that collect removes.
-pub fn highest_below_boundary(group: Group) -> SeqnoOption
+pub fn highest_below_boundary(group: Group) -> Option<u32>
     ensures { result ≡ highest_below_boundary group }
 {
     let boundary = group.boundary;
-    let Boundary::At(short) = boundary else {
-        return SeqnoOption::Absent;
+    let Some(short) = boundary else {
+        return None;
     };
     highest_below(group, short.seqno)
 }
@@ -138,7 +128,7 @@ pub fn collect_group(group: Group) -> Group
     ensures { result ≡ collect_group group }
 {
     let boundary = group.boundary;
-    let Boundary::At(short) = boundary else {
+    let Some(short) = boundary else {
         return group;
     };
     let rule = Retained::From(short.seqno);
@@ -150,7 +140,7 @@ pub fn collect_masters(masters: MasterGroup) -> MasterGroup
 {
     let group = masters.group;
     let boundary = group.boundary;
-    let Boundary::At(short) = boundary else {
+    let Some(short) = boundary else {
         return masters;
     };
     let rule = Retained::From(short.seqno);
@@ -167,31 +157,25 @@ fn held_collated_above(entry: BlockCacheEntry, seqno: u32) -> bool
 }
 
 // One entry more: its seqno if it is removed and below the best so far.
-fn lower_collated(best: SeqnoOption, entry: BlockCacheEntry, seqno: u32) -> SeqnoOption
-    ensures { result ≡ pick (held_collated_above seqno entry) (pack_seqno (chosen lower_of (view_seqno best) (held_seqno entry))) best }
+fn lower_collated(best: Option<u32>, entry: BlockCacheEntry, seqno: u32) -> Option<u32>
+    ensures { result ≡ cond (held_collated_above seqno entry) (chosen lower_of best (held_seqno entry)) best }
 {
     if !held_collated_above(entry, seqno) {
         return best;
     }
     let own = entry.block_id.seqno;
     match best {
-        SeqnoOption::Absent => SeqnoOption::At(own),
-        SeqnoOption::At(known) => {
-            if own < known {
-                SeqnoOption::At(own)
-            } else {
-                SeqnoOption::At(known)
-            }
-        }
+        None => Some(own),
+        Some(known) => { if own < known { Some(own) } else { Some(known) } }
     }
 }
 
 // The lowest seqno of the entries that the removal above a seqno takes.
-pub fn lowest_collated_above(group: Group, seqno: u32) -> SeqnoOption
+pub fn lowest_collated_above(group: Group, seqno: u32) -> Option<u32>
     ensures { result ≡ lowest_collated_above seqno group }
 {
     let count = group.count;
-    let mut best = SeqnoOption::Absent;
+    let mut best = None;
     let mut i: usize = 0;
     while i < ENTRIES_LIMIT {
         if count <= i {

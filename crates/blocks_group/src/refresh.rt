@@ -4,10 +4,10 @@ ghost use Rattle.blocks_group.specs.arrays.Store.{refresh_group, refresh_masters
 ghost use Rattle.blocks_group.specs.layout.Group.{check_mark};
 
 use crate::group::{Group, MasterGroup};
-use crate::mark::{Mark, check_mark};
+use crate::mark::check_mark;
 
 // The mark's rule in a lent group; the mark that it gives is the answer.
-pub fn check_refresh_last_known_synced(group: &mut Group, seqno: u32) -> Mark
+pub fn check_refresh_last_known_synced(group: &mut Group, seqno: u32) -> Option<u32>
     ensures { (result ≡ (check_mark seqno group.old.mark).given) × (group.new ≡ refresh_group seqno group.old) }
 {
     let known = group.mark;

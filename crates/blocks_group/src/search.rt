@@ -2,10 +2,8 @@
 ghost use Rattle.std.specs.Prelude.{◌≡◌};
 ghost use Rattle.blocks_group.specs.arrays.Search.{seqno_place};
 
-use block_records::place::Place;
-
 // Up to the first number that is not below the one asked for.
-pub(crate) fn search(seqnos: &[u32], seqno: u32) -> Place
+pub(crate) fn search(seqnos: &[u32], seqno: u32) -> Result<usize, usize>
     ensures { result ≡ seqno_place seqno seqnos.now }
 {
     let mut i = 0;
@@ -13,11 +11,11 @@ pub(crate) fn search(seqnos: &[u32], seqno: u32) -> Place
         let x = seqnos[i];
         if seqno <= x {
             if x == seqno {
-                return Place::At(i);
+                return Ok(i);
             }
-            return Place::Vacant(i);
+            return Err(i);
         }
         i += 1;
     }
-    Place::Vacant(i)
+    Err(i)
 }

@@ -1,15 +1,17 @@
 // RULES.md, Soundness: of one group, by its counts, entries, boundary and the places after its entries.
+ghost use Rattle.std.specs.List.{list_all};
 ghost use Rattle.std.specs.Prelude.{◌≡◌};
 ghost use Rattle.block_records.specs.rules.BlockId.{is_masterchain};
-ghost use Rattle.block_records.specs.rules.Lists.{every, rising};
+ghost use Rattle.block_records.specs.rules.Lists.{rising};
 ghost use Rattle.blocks_group.specs.arrays.Group.{beside, held_before, listed_entries};
 ghost use Rattle.blocks_group.specs.arrays.Soundness.{entries_zero_beyond, held_boundary_in, sound_entry, sound_master, tops_zero_beyond};
 ghost use Rattle.blocks_group.specs.layout.Group.{is_zero_boundary, is_zero_group, is_zero_mark, sound_group, sound_master_group};
 ghost use Rattle.blocks_group.specs.rules.Soundness.{of_shard};
 
-use crate::group::{Boundary, Group, MasterGroup};
-use crate::mark::Mark;
-use block_records::block_id::{ShardIdent, id_shard, is_masterchain, key_shard, same_shard};
+use crate::group::{Group, MasterGroup};
+use block_records::block_id::{
+    BlockIdShort, ShardIdent, id_shard, is_masterchain, key_shard, same_shard,
+};
 use block_records::entry::{BlockCacheEntry, entry_tidy, is_zero_entry};
 use block_records::limits::ENTRIES_LIMIT;
 use block_records::questions::{held_entry_fits, held_shard_entry_fits};
@@ -40,7 +42,7 @@ fn sound_master(entry: BlockCacheEntry, tops: TopBlocks) -> bool
 }
 
 fn sound_masters(group: Group, tops: [TopBlocks; ENTRIES_LIMIT]) -> bool
-    ensures { result ≡ every sound_master (beside (listed_entries group) tops) }
+    ensures { result ≡ list_all sound_master (beside (listed_entries group) tops) }
 {
     let count = group.count;
     let mut i: usize = 0;
@@ -108,24 +110,24 @@ fn tops_zero_beyond(tops: [TopBlocks; ENTRIES_LIMIT], from: usize) -> bool
 
 // ===== the boundary =====
 
-fn boundary_in_shard(boundary: Boundary, shard: ShardIdent) -> bool
+fn boundary_in_shard(boundary: Option<BlockIdShort>, shard: ShardIdent) -> bool
     ensures { result ≡ held_boundary_in (of_shard shard) boundary }
 {
     match boundary {
-        Boundary::Absent => true,
-        Boundary::At(short) => {
+        None => true,
+        Some(short) => {
             let own = key_shard(short);
             same_shard(own, shard)
         }
     }
 }
 
-fn boundary_in_masterchain(boundary: Boundary) -> bool
+fn boundary_in_masterchain(boundary: Option<BlockIdShort>) -> bool
     ensures { result ≡ held_boundary_in is_masterchain boundary }
 {
     match boundary {
-        Boundary::Absent => true,
-        Boundary::At(short) => {
+        None => true,
+        Some(short) => {
             let own = key_shard(short);
             is_masterchain(own)
         }
@@ -134,21 +136,21 @@ fn boundary_in_masterchain(boundary: Boundary) -> bool
 
 // ===== a group of zeros, as it stands in an unused place =====
 
-fn is_zero_mark(mark: Mark) -> bool
+fn is_zero_mark(mark: Option<u32>) -> bool
     ensures { result ≡ is_zero_mark mark }
 {
     match mark {
-        Mark::Absent => true,
-        Mark::At(_) => false,
+        None => true,
+        Some(_) => false,
     }
 }
 
-fn is_zero_boundary(boundary: Boundary) -> bool
+fn is_zero_boundary(boundary: Option<BlockIdShort>) -> bool
     ensures { result ≡ is_zero_boundary boundary }
 {
     match boundary {
-        Boundary::Absent => true,
-        Boundary::At(_) => false,
+        None => true,
+        Some(_) => false,
     }
 }
 

@@ -1,6 +1,5 @@
 // RULES.md, Collated store and Received store: the two stores of one group. A shard's group and the master group share their steps.
-ghost use Rattle.std.proofs.Math.Option.{none, some};
-ghost use Rattle.std.specs.Prelude.{◌≡◌};
+ghost use Rattle.std.specs.Prelude.{◌≡◌, None, Some};
 ghost use Rattle.blocks_group.specs.arrays.Group.{when_found};
 ghost use Rattle.blocks_group.specs.arrays.Store.{collated_step, group_synced, pack_step, received_step, refused_step, store_collated_block, store_collated_master, store_received_block, store_received_master, stored_step, with_block_data, without_tops};
 ghost use Rattle.blocks_group.specs.rules.Group.{collated_kind, received_kind};
@@ -14,47 +13,46 @@ use block_records::entry::{
     fresh_received_master, held_received, with_data,
 };
 use block_records::limits::ENTRIES_LIMIT;
-use block_records::place::Place;
-use block_records::store_records::{Anchor, BlockCandidate, ReceivedBlock};
+use block_records::questions::Refusal;
+use block_records::store_records::{BlockCandidate, ReceivedBlock};
 use block_records::top_block::zero_tops;
 
-#[derive(Clone, Copy)]
+#[derive(Clone, Copy, PartialEq, Eq)]
 pub enum StoreAnswer {
     Stored {
         received_and_collated: bool,
         block_mismatch: bool,
     },
     Synced,
-    Refused(u32),
 }
 
 #[derive(Clone, Copy)]
 pub struct GroupStore {
-    pub answer: StoreAnswer,
+    pub answer: Result<StoreAnswer, Refusal>,
     pub group: Group,
 }
 
 #[derive(Clone, Copy)]
 pub struct MasterStore {
-    pub answer: StoreAnswer,
+    pub answer: Result<StoreAnswer, Refusal>,
     pub masters: MasterGroup,
 }
 
 // What a store answers, and the block that it puts at its seqno, if it changes anything.
 #[derive(Clone, Copy)]
 pub(crate) struct StoreStep {
-    pub answer: StoreAnswer,
+    pub answer: Result<StoreAnswer, Refusal>,
     pub changed: bool,
     pub block: MasterBlock,
 }
 
 // ===== the steps =====
 
-fn refused_step(number: u32, block: MasterBlock) -> StoreStep
-    ensures { result ≡ pack_step block (refused_step number) }
+fn refused_step(refusal: Refusal, block: MasterBlock) -> StoreStep
+    ensures { result ≡ pack_step block (refused_step refusal) }
 {
     StoreStep {
-        answer: StoreAnswer::Refused(number),
+        answer: Err(refusal),
         changed: false,
         block,
     }
@@ -62,12 +60,12 @@ fn refused_step(number: u32, block: MasterBlock) -> StoreStep
 
 // A block is put in.
 fn stored_step(both: bool, mismatch: bool, block: MasterBlock) -> StoreStep
-    ensures { result ≡ pack_step block (stored_step both mismatch (some block)) }
+    ensures { result ≡ pack_step block (stored_step both mismatch (Some block)) }
 {
-    let answer = StoreAnswer::Stored {
+    let answer = Ok(StoreAnswer::Stored {
         received_and_collated: both,
         block_mismatch: mismatch,
-    };
+    });
     StoreStep {
         answer,
         changed: true,
@@ -77,12 +75,12 @@ fn stored_step(both: bool, mismatch: bool, block: MasterBlock) -> StoreStep
 
 // Nothing changes.
 fn kept_step(both: bool, mismatch: bool, block: MasterBlock) -> StoreStep
-    ensures { result ≡ pack_step block (stored_step both mismatch none) }
+    ensures { result ≡ pack_step block (stored_step both mismatch None) }
 {
-    let answer = StoreAnswer::Stored {
+    let answer = Ok(StoreAnswer::Stored {
         received_and_collated: both,
         block_mismatch: mismatch,
-    };
+    });
     StoreStep {
         answer,
         changed: false,
@@ -110,7 +108,7 @@ fn collated_kind(c: BlockCandidate, data: BlockCacheEntryData) -> BlockCacheEntr
     }
     BlockCacheEntryData::Received {
         collated_after_receive: true,
-        additional_anchor: Anchor::At(c.processed_to_anchor),
+        additional_anchor: Some(c.processed_to_anchor),
     }
 }
 
@@ -147,18 +145,23 @@ fn with_block_data(block: MasterBlock, data: BlockCacheEntryData) -> MasterBlock
 }
 
 // The collated store, by whether the group has a place left and what stands at the candidate's seqno.
-fn collated_step(c: BlockCandidate, room: bool, found: Place, block: MasterBlock) -> StoreStep
+fn collated_step(
+    c: BlockCandidate,
+    room: bool,
+    found: Result<usize, usize>,
+    block: MasterBlock,
+) -> StoreStep
     ensures { result ≡ pack_step block (collated_step c room (when_found found block)) }
 {
-    let Place::At(_) = found else {
+    let Ok(_) = found else {
         if room {
             let fresh = fresh_collated_master(c);
             return stored_step(false, false, fresh);
         }
-        return refused_step(8, block);
+        return refused_step(Refusal::NoRoom, block);
     };
     if !held_received(block.entry) {
-        return refused_step(7, block);
+        return refused_step(Refusal::AlreadyStored, block);
     }
     if !same_id(block.entry.block_id, c.block_id) {
         return kept_step(false, true, block);
@@ -175,20 +178,20 @@ fn received_step(
     zerostate: u32,
     r: ReceivedBlock,
     room: bool,
-    found: Place,
+    found: Result<usize, usize>,
     block: MasterBlock,
 ) -> StoreStep
     ensures { result ≡ pack_step block (received_step zerostate r room (when_found found block)) }
 {
-    let Place::At(_) = found else {
+    let Ok(_) = found else {
         if room {
             let fresh = fresh_received_master(zerostate, r);
             return stored_step(false, false, fresh);
         }
-        return refused_step(8, block);
+        return refused_step(Refusal::NoRoom, block);
     };
     if held_received(block.entry) {
-        return refused_step(7, block);
+        return refused_step(Refusal::AlreadyStored, block);
     }
     if !same_id(block.entry.block_id, r.block_id) {
         let fresh = fresh_received_master(zerostate, r);
@@ -244,7 +247,7 @@ pub fn store_received_block(zerostate: u32, group: Group, r: ReceivedBlock) -> G
     let seqno = r.block_id.seqno;
     if group_synced(group, seqno) {
         return GroupStore {
-            answer: StoreAnswer::Synced,
+            answer: Ok(StoreAnswer::Synced),
             group,
         };
     }
@@ -292,7 +295,7 @@ pub fn store_received_master(zerostate: u32, masters: MasterGroup, r: ReceivedBl
     let seqno = r.block_id.seqno;
     if group_synced(masters.group, seqno) {
         return MasterStore {
-            answer: StoreAnswer::Synced,
+            answer: Ok(StoreAnswer::Synced),
             masters,
         };
     }

@@ -1,9 +1,10 @@
 -- The claim over every list of steps.
 -- Assumes nothing.
+use Rattle.block_records.specs.declared.questions.Refusal.{Refusal}
+use Rattle.std.specs.Prelude.{Option, None, Some, map}
 use mathlib.Core.Bool.{true}
 use mathlib.Core.List.{List, Memᴰ, [], ◌∷◌}
 use mathlib.Core.Logic.{◌↔◌, ◌≢◌}
-use mathlib.Core.Option.{Option, none, some}
 use mathlib.Core.Path.{◌∙◌, ◌≡◌, ap, refl, subst, sym}
 use Prim.Native.Nat.{◌+◌, ◌≤◌, ℕ}
 use native.Mathlib.Omega.{arith}
@@ -21,7 +22,7 @@ use Rattle.block_records.proofs.rules.Tests.{on, some_not_none}
 use Rattle.block_records.specs.layout.Entry.{pack_entry}
 use Rattle.block_records.specs.rules.BlockId.{key}
 use Rattle.block_records.specs.rules.Entry.{Entry}
-use Rattle.block_records.specs.rules.Lists.{each, total}
+use Rattle.block_records.specs.rules.Lists.{total}
 use Rattle.block_records.specs.rules.Questions.{first_no}
 use Rattle.blocks_group.proofs.rules.GroupLaws.{member_without}
 use Rattle.blocks_group.specs.rules.Group.{at_seqno, has_seqno, without}
@@ -38,7 +39,7 @@ use Rattle.cache_rules.specs.Refusals.{further, is_synced, questions, sound_mode
 
 -- ===== what a pop or a sync extraction hands out =====
 
-packed_counts : (es : List Entry) → total (λ (b : BlockCacheEntry). b.prev_ids.count) (each pack_entry es) ≡ previous_in es
+packed_counts : (es : List Entry) → total (λ (b : BlockCacheEntry). b.prev_ids.count) (map pack_entry es) ≡ previous_in es
 packed_counts [] = refl
 packed_counts (e ∷ es) = ap (λ (n : ℕ). length e.previous + n) (packed_counts es)
 
@@ -46,7 +47,7 @@ module _ (m : Model) (M : Entry) (ok : sound_model m ≡ true) (was : Memᴰ M m
     (after : Model) (ok' : sound_model after ≡ true) (shards' : after.shards ≡ (extraction_of M m).shards)
     (masters' : after.masters.entries ≡ without M.id.seqno m.masters.entries) where
   abbrev out : List BlockCacheEntry
-  out = each pack_entry (extraction_of M m).joined
+  out = map pack_entry (extraction_of M m).joined
 
   abbrev n : ℕ
   n = length (extraction_of M m).joined
@@ -65,18 +66,18 @@ module _ (m : Model) (M : Entry) (ok : sound_model m ≡ true) (was : Memᴰ M m
     where
       unreached : Cached after k e → (i : BlockId) → Reached m M i → key i ≢ k
       unreached c i r s =
-          let f : block_under (extraction_of M m).shards k ≡ some e = subst (λ (gs : List ShardModel). block_under gs k ≡ some e) shards' (cached_lookup after ok' k e c) in
-          some_not_none f (subst (λ (x : BlockIdShort). block_under (extraction_of M m).shards x ≡ none) s (reached_left m M ok i r))
+          let f : block_under (extraction_of M m).shards k ≡ Some e = subst (λ (gs : List ShardModel). block_under gs k ≡ Some e) shards' (cached_lookup after ok' k e c) in
+          some_not_none f (subst (λ (x : BlockIdShort). block_under (extraction_of M m).shards x ≡ None) s (reached_left m M ok i r))
 
       from : Cached after k e → Cached m k e × (ReachedKey m M k → ⊥)
       from c =
-          let f : block_under (extraction_of M m).shards k ≡ some e = subst (λ (gs : List ShardModel). block_under gs k ≡ some e) shards' (cached_lookup after ok' k e c) in
+          let f : block_under (extraction_of M m).shards k ≡ Some e = subst (λ (gs : List ShardModel). block_under gs k ≡ Some e) shards' (cached_lookup after ok' k e c) in
           (lookup_cached m k e (sym (others_stay m M ok k (unreached c)) ∙ f), λ r. unreached c r.0 r.1 r.2)
 
       to : Cached m k e × (ReachedKey m M k → ⊥) → Cached after k e
       to c =
           let f = others_stay m M ok k (λ i r s. c.1 (i, r, s)) ∙ cached_lookup m ok k e c.0 in
-          lookup_cached after k e (subst (λ (gs : List ShardModel). block_under gs k ≡ some e) (sym shards') f)
+          lookup_cached after k e (subst (λ (gs : List ShardModel). block_under gs k ≡ Some e) (sym shards') f)
 
   pub hands_out : HandsOut m lent (extract_of M (extraction_of M m)) after (at_front out lent)
   hands_out =
@@ -98,63 +99,63 @@ module _ (m : Model) (M : Entry) (ok : sound_model m ≡ true) (was : Memᴰ M m
 
 -- what an effect hands out, if it hands out anything
 abbrev EffectHands : Model → List BlockCacheEntry → Effect → Type 0
-EffectHands m lent e = (x : Extract) → handed e.answer ≡ some x → HandsOut m lent x e.model (at_front (each pack_entry e.blocks) lent)
+EffectHands m lent e = (x : Extract) → handed e.answer ≡ Some x → HandsOut m lent x e.model (at_front (map pack_entry e.blocks) lent)
 
 abbrev NoBlocks : Effect → Type 0
-NoBlocks e = handed e.answer ≡ none → e.blocks ≡ []
+NoBlocks e = handed e.answer ≡ None → e.blocks ≡ []
 
-nothing_hands : (m : Model) (lent : List BlockCacheEntry) (e : Effect) → handed e.answer ≡ none → EffectHands m lent e
+nothing_hands : (m : Model) (lent : List BlockCacheEntry) (e : Effect) → handed e.answer ≡ None → EffectHands m lent e
 nothing_hands m lent e h x f = some_not_none f h
 
 -- exactly the extract that is handed out
-extract_hands : (m : Model) (lent : List BlockCacheEntry) (e : Effect) (y : Extract) → handed e.answer ≡ some y →
-    HandsOut m lent y e.model (at_front (each pack_entry e.blocks) lent) → EffectHands m lent e
+extract_hands : (m : Model) (lent : List BlockCacheEntry) (e : Effect) (y : Extract) → handed e.answer ≡ Some y →
+    HandsOut m lent y e.model (at_front (map pack_entry e.blocks) lent) → EffectHands m lent e
 extract_hands m lent e y h t x f =
-    let s : some y ≡ some x = sym h ∙ f in
+    let s : Some y ≡ Some x = sym h ∙ f in
     let q : y ≡ x = cc in
-    subst (λ (z : Extract). HandsOut m lent z e.model (at_front (each pack_entry e.blocks) lent)) q t
+    subst (λ (z : Extract). HandsOut m lent z e.model (at_front (map pack_entry e.blocks) lent)) q t
 
 pop_hands : (m : Model) (f : ℕ) (lent : List BlockCacheEntry) (o : Option Entry) → sound_model m ≡ true → 128 ≤ length lent → first_applied f m ≡ o →
     sound_model (pop_entry o m).model ≡ true → EffectHands m lent (pop_entry o m)
-pop_hands m f lent none ok enough e ok' = nothing_hands m lent (pop_entry none m) refl
-pop_hands m f lent (some M) ok enough e ok' =
-    extract_hands m lent (pop_entry (some M) m) (extract_of M (extraction_of M m)) refl
-    (hands_out m M ok (find_member (applied_from f) m.masters.entries e) lent enough (pop_entry (some M) m).model ok' refl refl)
+pop_hands m f lent None ok enough e ok' = nothing_hands m lent (pop_entry None m) refl
+pop_hands m f lent (Some M) ok enough e ok' =
+    extract_hands m lent (pop_entry (Some M) m) (extract_of M (extraction_of M m)) refl
+    (hands_out m M ok (find_member (applied_from f) m.masters.entries e) lent enough (pop_entry (Some M) m).model ok' refl refl)
 
 sync_hands : (m : Model) (n : ℕ) (lent : List BlockCacheEntry) (o : Option Entry) → sound_model m ≡ true → 128 ≤ length lent → at_seqno n m.masters.entries ≡ o →
     sound_model (sync_entry o m).model ≡ true → EffectHands m lent (sync_entry o m)
-sync_hands m n lent none ok enough e ok' = nothing_hands m lent (sync_entry none m) refl
-sync_hands m n lent (some M) ok enough e ok' =
-    extract_hands m lent (sync_entry (some M) m) (extract_of M (extraction_of M m)) refl
-    (hands_out m M ok (find_member (has_seqno n) m.masters.entries e) lent enough (sync_entry (some M) m).model ok' refl refl)
+sync_hands m n lent None ok enough e ok' = nothing_hands m lent (sync_entry None m) refl
+sync_hands m n lent (Some M) ok enough e ok' =
+    extract_hands m lent (sync_entry (Some M) m) (extract_of M (extraction_of M m)) refl
+    (hands_out m M ok (find_member (has_seqno n) m.masters.entries e) lent enough (sync_entry (Some M) m).model ok' refl refl)
 
 record Plain (e : Effect) : Type 0 where
-  hands_none : handed e.answer ≡ none
+  hands_none : handed e.answer ≡ None
   no_blocks : e.blocks ≡ []
 
 validate_kind_plain : (v : Validation) (e : Entry) (o : Option BlockCacheEntryData) (m : Model) → Plain (validate_kind v e o m)
-validate_kind_plain v e none m = record { hands_none = refl; no_blocks = refl }
-validate_kind_plain v e (some k) m = record { hands_none = refl; no_blocks = refl }
+validate_kind_plain v e None m = record { hands_none = refl; no_blocks = refl }
+validate_kind_plain v e (Some k) m = record { hands_none = refl; no_blocks = refl }
 
 validate_plain : (v : Validation) (o : Option Entry) (m : Model) → Plain (validate_entry v o m)
-validate_plain v none m = record { hands_none = refl; no_blocks = refl }
-validate_plain v (some e) m = validate_kind_plain v e (validated_kind v e.kind) m
+validate_plain v None m = record { hands_none = refl; no_blocks = refl }
+validate_plain v (Some e) m = validate_kind_plain v e (validated_kind v e.kind) m
 
 peek_plain : (o : Option Entry) (m : Model) → Plain (peek_entry o m)
-peek_plain none m = record { hands_none = refl; no_blocks = refl }
-peek_plain (some e) m = record { hands_none = refl; no_blocks = refl }
+peek_plain None m = record { hands_none = refl; no_blocks = refl }
+peek_plain (Some e) m = record { hands_none = refl; no_blocks = refl }
 
 tails_plain : (o : Option Entry) (m : Model) → Plain (tail_ids_entry o m)
-tails_plain none m = record { hands_none = refl; no_blocks = refl }
-tails_plain (some e) m = record { hands_none = refl; no_blocks = refl }
+tails_plain None m = record { hands_none = refl; no_blocks = refl }
+tails_plain (Some e) m = record { hands_none = refl; no_blocks = refl }
 
 pop_blocks : (o : Option Entry) (m : Model) → NoBlocks (pop_entry o m)
-pop_blocks none m h = refl
-pop_blocks (some M) m h = some_not_none refl h
+pop_blocks None m h = refl
+pop_blocks (Some M) m h = some_not_none refl h
 
 sync_blocks : (o : Option Entry) (m : Model) → NoBlocks (sync_entry o m)
-sync_blocks none m h = refl
-sync_blocks (some M) m h = some_not_none refl h
+sync_blocks None m h = refl
+sync_blocks (Some M) m h = some_not_none refl h
 
 record Hands (m : Model) (lent : List BlockCacheEntry) (e : Effect) : Type 0 where
   hands : EffectHands m lent e
@@ -187,16 +188,16 @@ effect_hands m (remove_next_collated ks) lent ok y ok' = plainly m lent _ (recor
 
 -- ===== one step =====
 
-answered_holds : (m : Model) (call : Call) (o : Option ℕ) → first_no (questions m call) ≡ o → sound_model m ≡ true → sound_model (answered o m call).model ≡ true → StepHolds m call (answered o m call)
-answered_holds m call none e ok ok' =
+answered_holds : (m : Model) (call : Call) (o : Option Refusal) → first_no (questions m call) ≡ o → sound_model m ≡ true → sound_model (answered o m call).model ≡ true → StepHolds m call (answered o m call)
+answered_holds m call None e ok ok' =
     let h = effect_hands m call.request call.lent ok (all_yes (questions m call) e).1 ok' in
     record {
       hands_out = h.hands;
-      nothing_out = λ f. ap (λ (bs : List Entry). at_front (each pack_entry bs) call.lent) (h.blocks f);
-      range = (parts (answered none m call).model ok').range;
+      nothing_out = λ f. ap (λ (bs : List Entry). at_front (map pack_entry bs) call.lent) (h.blocks f);
+      range = (parts (answered None m call).model ok').range;
       sound_still = ok';
     }
-answered_holds m call (some k) e ok ok' =
+answered_holds m call (Some k) e ok ok' =
     record { hands_out = λ x f. some_not_none f refl; nothing_out = λ f. refl; range = (parts m ok).range; sound_still = ok }
 
 pub step_holds : (m : Model) (call : Call) → sound_model m ≡ true → StepHolds m call (step m call)

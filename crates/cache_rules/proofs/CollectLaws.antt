@@ -1,15 +1,15 @@
 -- Collect and remove next collated touch neither range nor marks.
 -- Assumes nothing.
+use Rattle.std.specs.List.{fold}
+use Rattle.std.specs.Prelude.{Option, map}
 use mathlib.Core.List.{List, [], ◌∷◌}
-use mathlib.Core.Option.{Option}
 use mathlib.Core.Path.{◌∙◌, ◌≡◌, ap, refl}
 use Prim.Native.Nat.{ℕ}
 use Rattle.block_records.specs.declared.block_id.BlockIdShort.{BlockIdShort}
 use Rattle.block_records.specs.declared.block_id.ShardIdent.{ShardIdent}
-use Rattle.block_records.specs.declared.store_records.Keys.{Keys}
+use Rattle.block_records.specs.layout.Listed.{Keys}
 use Rattle.block_records.proofs.rules.Tests.{on}
 use Rattle.block_records.specs.rules.BlockId.{is_masterchain, key_shard, listed_keys, same_shard}
-use Rattle.block_records.specs.rules.Lists.{each, fold}
 use Rattle.blocks_group.specs.rules.Group.{without_collated_above}
 use Rattle.cache_rules.specs.Calls.{collect, remove_next_collated}
 use Rattle.cache_rules.specs.Effects.{collect_shard, effect, remove_one}
@@ -21,9 +21,9 @@ mark_of g = g.group.mark
 pub record Untouched (m m' : Model) : Type 0 where
   pub range : m'.range ≡ m.range
   pub master_mark : m'.masters.mark ≡ m.masters.mark
-  pub shard_marks : each mark_of m'.shards ≡ each mark_of m.shards
+  pub shard_marks : map mark_of m'.shards ≡ map mark_of m.shards
 
-collect_marks : (gs : List ShardModel) → each mark_of (each collect_shard gs) ≡ each mark_of gs
+collect_marks : (gs : List ShardModel) → map mark_of (map collect_shard gs) ≡ map mark_of gs
 collect_marks [] = refl
 collect_marks (g ∷ gs) = ap (λ (r : List (Option ℕ)). g.group.mark ∷ r) (collect_marks gs)
 
@@ -31,7 +31,7 @@ pub collect_untouched : (m : Model) → Untouched m (effect m collect).model
 unfolding effect
 collect_untouched m = record { range = refl; master_mark = refl; shard_marks = collect_marks m.shards }
 
-on_marks : (s : ShardIdent) (n : ℕ) (gs : List ShardModel) → each mark_of (on_shard s (without_collated_above n) gs) ≡ each mark_of gs
+on_marks : (s : ShardIdent) (n : ℕ) (gs : List ShardModel) → map mark_of (on_shard s (without_collated_above n) gs) ≡ map mark_of gs
 on_marks s n [] = refl
 on_marks s n (g ∷ gs) =
     on (same_shard g.shard s)

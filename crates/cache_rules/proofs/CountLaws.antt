@@ -1,9 +1,10 @@
 -- How many ids extraction takes, how many blocks join, that 264 waiting places and 128 records suffice; and that any number of turns after
 -- which nothing waits gives the same end.
 -- Assumes nothing.
+use Rattle.std.specs.List.{list_all}
+use Rattle.std.specs.Prelude.{Option, None, Some}
 use mathlib.Core.Bool.{Bool, not, true}
 use mathlib.Core.List.{List, [], ◌∷◌}
-use mathlib.Core.Option.{Option, none, some}
 use mathlib.Core.Path.{◌∙◌, ◌≡◌, ap, refl, sym}
 use Prim.Native.Nat.{◌*◌, ◌+◌, ◌≤◌, suc, zero, ℕ}
 use native.Mathlib.Nat.{le_refl}
@@ -18,7 +19,7 @@ use Rattle.block_records.proofs.rules.ListLaws.{length_each, length_select}
 use Rattle.block_records.proofs.rules.Tests.{and_left, and_right, on, some_not_none}
 use Rattle.block_records.specs.rules.BlockId.{id_shard, key, key_shard, same_shard}
 use Rattle.block_records.specs.rules.Entry.{Entry}
-use Rattle.block_records.specs.rules.Lists.{every, total}
+use Rattle.block_records.specs.rules.Lists.{total}
 use Rattle.block_records.specs.rules.Questions.{entry_fits}
 use Rattle.blocks_group.proofs.rules.GroupLaws.{previous_two, tops_eight}
 use Rattle.blocks_group.specs.rules.Group.{GroupModel, at_seqno, has_seqno, refresh, with_entries, without}
@@ -67,8 +68,8 @@ Counted n w = w.taken + length w.waiting ≡ n + previous_in w.joined
 
 found_counted : (n m : ℕ) (i : BlockId) (rest : List BlockId) (w : Walk) (o : Option Entry) → w.taken + suc (length rest) ≡ n + previous_in w.joined →
     Counted n (take_found m i rest w o)
-found_counted n m i rest w none h = omega arith
-found_counted n m i rest w (some e) h =
+found_counted n m i rest w None h = omega arith
+found_counted n m i rest w (Some e) h =
     on (eqb e.reference m) (λ t. rw t (omega (arith, length-append rest e.previous))) (λ t. rw t (omega arith))
 
 id_counted : (n m : ℕ) (w : Walk) (q : List BlockId) → w.waiting ≡ q → w.taken + length q ≡ n + previous_in w.joined → Counted n (take_id m w q)
@@ -94,7 +95,7 @@ record Bounded (p b : ℕ) (w : Walk) : Type 0 where
   ids : previous_in w.joined + previous_cached w.shards ≤ p
   blocks : length w.joined + blocks_cached w.shards ≤ b
 
-length_without : (n : ℕ) (es : List Entry) {e : Entry} → at_seqno n es ≡ some e → suc (length (without n es)) ≤ length es
+length_without : (n : ℕ) (es : List Entry) {e : Entry} → at_seqno n es ≡ Some e → suc (length (without n es)) ≤ length es
 length_without n [] h = some_not_none h refl
 length_without n (x ∷ es) {e} h =
     on (has_seqno n x)
@@ -106,7 +107,7 @@ blocks_on s f [] le = le_refl 0
 blocks_on s f (h ∷ gs) le =
     let ih = blocks_on s f gs le in on (same_shard h.shard s) (λ t. rw t (omega (arith, le h.group))) (λ t. rw t (omega arith))
 
-blocks_removed : (k : BlockIdShort) (gs : List ShardModel) {e : Entry} → block_under gs k ≡ some e → suc (blocks_cached (remove_block k gs)) ≤ blocks_cached gs
+blocks_removed : (k : BlockIdShort) (gs : List ShardModel) {e : Entry} → block_under gs k ≡ Some e → suc (blocks_cached (remove_block k gs)) ≤ blocks_cached gs
 blocks_removed k [] h = some_not_none h refl
 blocks_removed k (x ∷ gs) {e} h =
     on (same_shard x.shard (key_shard k))
@@ -118,8 +119,8 @@ blocks_removed k (x ∷ gs) {e} h =
     (λ t. let ih = blocks_removed k gs {e = e} (rw t at h) in rw t (omega arith))
 
 found_bounded : (p b m : ℕ) (i : BlockId) (rest : List BlockId) (w : Walk) (o : Option Entry) → block_under w.shards (key i) ≡ o → Bounded p b w → Bounded p b (take_found m i rest w o)
-found_bounded p b m i rest w none f h = record { ids = h.ids; blocks = h.blocks }
-found_bounded p b m i rest w (some e) f h =
+found_bounded p b m i rest w None f h = record { ids = h.ids; blocks = h.blocks }
+found_bounded p b m i rest w (Some e) f h =
     let l = previous_removed (key i) w.shards {e = e} f in
     let n = blocks_removed (key i) w.shards {e = e} f in
     on (eqb e.reference m)
@@ -155,25 +156,25 @@ module _ (k m : ℕ) (ids : List BlockId) (gs : List ShardModel) where
 
 -- ===== a sound model's counts =====
 
-previous_at_most : (p : ShardIdent → Bool) (es : List Entry) → every (fits_in p) es ≡ true → previous_in es ≤ 2 * length es
+previous_at_most : (p : ShardIdent → Bool) (es : List Entry) → list_all (fits_in p) es ≡ true → previous_in es ≤ 2 * length es
 previous_at_most p [] h = omega arith
 previous_at_most p (e ∷ es) h =
-    let ih = previous_at_most p es (and_right (fits_in p e) (every (fits_in p) es) h) in
-    let f : fits_in p e ≡ true = and_left (fits_in p e) (every (fits_in p) es) h in
+    let ih = previous_at_most p es (and_right (fits_in p e) (list_all (fits_in p) es) h) in
+    let f : fits_in p e ≡ true = and_left (fits_in p e) (list_all (fits_in p) es) h in
     omega (arith, ih, previous_two e (and_right (p (id_shard e.id)) (entry_fits e) f))
 
-pub shards_previous : (gs : List ShardModel) → every sound_shard_model gs ≡ true → previous_cached gs ≤ 32 * length gs
+pub shards_previous : (gs : List ShardModel) → list_all sound_shard_model gs ≡ true → previous_cached gs ≤ 32 * length gs
 shards_previous [] h = omega arith
 shards_previous (x ∷ gs) h =
-    let ih = shards_previous gs (and_right (sound_shard_model x) (every sound_shard_model gs) h) in
-    let g = shard_parts x (and_left (sound_shard_model x) (every sound_shard_model gs) h) in
+    let ih = shards_previous gs (and_right (sound_shard_model x) (list_all sound_shard_model gs) h) in
+    let g = shard_parts x (and_left (sound_shard_model x) (list_all sound_shard_model gs) h) in
     omega (arith, ih, leb-true (length x.group.entries) 16 g.count, previous_at_most (of_shard x.shard) x.group.entries g.fit)
 
-pub shards_blocks : (gs : List ShardModel) → every sound_shard_model gs ≡ true → blocks_cached gs ≤ 16 * length gs
+pub shards_blocks : (gs : List ShardModel) → list_all sound_shard_model gs ≡ true → blocks_cached gs ≤ 16 * length gs
 shards_blocks [] h = omega arith
 shards_blocks (x ∷ gs) h =
-    let ih = shards_blocks gs (and_right (sound_shard_model x) (every sound_shard_model gs) h) in
-    let g = shard_parts x (and_left (sound_shard_model x) (every sound_shard_model gs) h) in
+    let ih = shards_blocks gs (and_right (sound_shard_model x) (list_all sound_shard_model gs) h) in
+    let g = shard_parts x (and_left (sound_shard_model x) (list_all sound_shard_model gs) h) in
     omega (arith, ih, leb-true (length x.group.entries) 16 g.count)
 
 -- at any time no more than 264 ids have been in the list

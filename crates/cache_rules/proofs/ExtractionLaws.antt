@@ -1,9 +1,9 @@
 -- The extraction: it ends with an empty waiting list, and what it left and joined is told by the reached ids alone.
 -- Assumes nothing.
+use Rattle.std.specs.Prelude.{Option, None, Some}
 use mathlib.Core.List.Memᴰ
 use mathlib.Core.List.{List, Memᴰ, [], ◌++◌, ◌∷◌}
 use mathlib.Core.Logic.{◌≢◌, ◌⊎◌, inl, inr}
-use mathlib.Core.Option.{Option, none, some}
 use mathlib.Core.Path.{◌∙◌, ◌≡◌, ap, refl, sym}
 use Prim.Native.Nat.{◌+◌, ◌≤◌, suc, zero, ℕ}
 use native.Mathlib.Omega.{arith}
@@ -32,8 +32,8 @@ ahead w = length w.waiting + previous_cached w.shards
 
 found_less : (m : ℕ) (i : BlockId) (rest : List BlockId) (w : Walk) (o : Option Entry) → block_under w.shards (key i) ≡ o →
     ahead (take_found m i rest w o) ≤ length rest + previous_cached w.shards
-found_less m i rest w none h = omega arith
-found_less m i rest w (some e) h =
+found_less m i rest w None h = omega arith
+found_less m i rest w (Some e) h =
     let l = previous_removed (key i) w.shards {e = e} h in
     on (eqb e.reference m)
     (λ t. rw t (omega (arith, l, previous_refreshed (key i) (remove_block (key i) w.shards), length-append rest e.previous)))
@@ -69,30 +69,30 @@ ends (suc k) m w h = go (id_less m w w.waiting) (ends k m (take_one m w))
 module _ (gs₀ : List ShardModel) (mm : ℕ) (R : BlockId → Type 0) (ids₀ : List BlockId) where
   -- under a key nothing has changed, or it is a reached one and nothing stands there
   abbrev pub Kept : List ShardModel → BlockIdShort → Type 0
-  Kept gs k = (block_under gs k ≡ block_under gs₀ k) ⊎ ((i : BlockId) × R i × (key i ≡ k) × (block_under gs k ≡ none))
+  Kept gs k = (block_under gs k ≡ block_under gs₀ k) ⊎ ((i : BlockId) × R i × (key i ≡ k) × (block_under gs k ≡ None))
 
   -- an id that has been taken, or will be
   abbrev pub Seen : List BlockId → List ShardModel → BlockId → Type 0
-  Seen q gs p = Memᴰ p q ⊎ (block_under gs (key p) ≡ none)
+  Seen q gs p = Memᴰ p q ⊎ (block_under gs (key p) ≡ None)
 
   pub record Joined (gs : List ShardModel) (e : Entry) : Type 0 where
     pub under : BlockId
     pub reached : R under
-    pub as_cached : block_under gs₀ (key under) ≡ some e
+    pub as_cached : block_under gs₀ (key under) ≡ Some e
     pub names : e.reference ≡ mm
-    pub gone : block_under gs (key under) ≡ none
+    pub gone : block_under gs (key under) ≡ None
 
   pub record Inv (q : List BlockId) (gs : List ShardModel) (js : List Entry) : Type 0 where
     pub waiting_reached : (i : BlockId) → Memᴰ i q → R i
     pub kept : (k : BlockIdShort) → Kept gs k
     pub starts_seen : (i : BlockId) → Memᴰ i ids₀ → Seen q gs i
-    pub gone_joined : (k : BlockIdShort) (e : Entry) → block_under gs₀ k ≡ some e → block_under gs k ≡ none → e.reference ≡ mm → Memᴰ e js
-    pub gone_seen : (k : BlockIdShort) (e : Entry) → block_under gs₀ k ≡ some e → block_under gs k ≡ none → e.reference ≡ mm → (p : BlockId) → Memᴰ p e.previous → Seen q gs p
+    pub gone_joined : (k : BlockIdShort) (e : Entry) → block_under gs₀ k ≡ Some e → block_under gs k ≡ None → e.reference ≡ mm → Memᴰ e js
+    pub gone_seen : (k : BlockIdShort) (e : Entry) → block_under gs₀ k ≡ Some e → block_under gs k ≡ None → e.reference ≡ mm → (p : BlockId) → Memᴰ p e.previous → Seen q gs p
     pub joined : (e : Entry) → Memᴰ e js → Joined gs e
     pub once : OnceEntries js
 
-  module _ (closed : (i : BlockId) (e : Entry) (p : BlockId) → R i → block_under gs₀ (key i) ≡ some e → e.reference ≡ mm → Memᴰ p e.previous → R p)
-      (own_key : (k : BlockIdShort) (e : Entry) → block_under gs₀ k ≡ some e → key e.id ≡ k) where
+  module _ (closed : (i : BlockId) (e : Entry) (p : BlockId) → R i → block_under gs₀ (key i) ≡ Some e → e.reference ≡ mm → Memᴰ p e.previous → R p)
+      (own_key : (k : BlockIdShort) (e : Entry) → block_under gs₀ k ≡ Some e → key e.id ≡ k) where
     pub begin : ((i : BlockId) → Memᴰ i ids₀ → R i) → Inv ids₀ gs₀ []
     begin starts =
         record {
@@ -106,7 +106,7 @@ module _ (gs₀ : List ShardModel) (mm : ℕ) (R : BlockId → Type 0) (ids₀ :
         }
 
     -- nothing stands under the id taken
-    skip : (i : BlockId) (rest : List BlockId) (gs : List ShardModel) (js : List Entry) → block_under gs (key i) ≡ none → Inv (i ∷ rest) gs js → Inv rest gs js
+    skip : (i : BlockId) (rest : List BlockId) (gs : List ShardModel) (js : List Entry) → block_under gs (key i) ≡ None → Inv (i ∷ rest) gs js → Inv rest gs js
     skip i rest gs js h v =
         record {
           waiting_reached = λ j u. v.waiting_reached j (Memᴰ.tail u);
@@ -127,22 +127,22 @@ module _ (gs₀ : List ShardModel) (mm : ℕ) (R : BlockId → Type 0) (ids₀ :
         seen p (inr g) = inr g
 
     -- the block under the id taken leaves
-    module _ (i : BlockId) (rest : List BlockId) (gs gs' : List ShardModel) (js : List Entry) (e : Entry) (found : block_under gs (key i) ≡ some e)
-        (left : block_under gs' (key i) ≡ none) (others : (k : BlockIdShort) → k ≢ key i → block_under gs' k ≡ block_under gs k) (v : Inv (i ∷ rest) gs js) where
+    module _ (i : BlockId) (rest : List BlockId) (gs gs' : List ShardModel) (js : List Entry) (e : Entry) (found : block_under gs (key i) ≡ Some e)
+        (left : block_under gs' (key i) ≡ None) (others : (k : BlockIdShort) → k ≢ key i → block_under gs' k ≡ block_under gs k) (v : Inv (i ∷ rest) gs js) where
       reached_now : R i
       reached_now = v.waiting_reached i (Memᴰ.head refl)
 
-      was_from : Kept gs (key i) → block_under gs₀ (key i) ≡ some e
+      was_from : Kept gs (key i) → block_under gs₀ (key i) ≡ Some e
       was_from (inl s) = sym s ∙ found
       was_from (inr g) = some_not_none found g.3
 
-      was : block_under gs₀ (key i) ≡ some e
+      was : block_under gs₀ (key i) ≡ Some e
       was = was_from (v.kept (key i))
 
-      none_stays : (k : BlockIdShort) → block_under gs k ≡ none → block_under gs' k ≡ none
+      none_stays : (k : BlockIdShort) → block_under gs k ≡ None → block_under gs' k ≡ None
       none_stays k h = by_key (key_dec k (key i))
         where
-          by_key : Dec (k ≡ key i) → block_under gs' k ≡ none
+          by_key : Dec (k ≡ key i) → block_under gs' k ≡ None
           by_key (yes s) = rw s left
           by_key (no d) = others k d ∙ h
 
@@ -168,12 +168,12 @@ module _ (gs₀ : List ShardModel) (mm : ℕ) (R : BlockId → Type 0) (ids₀ :
           record { under = j.under; reached = j.reached; as_cached = j.as_cached; names = j.names; gone = none_stays (key j.under) j.gone }
 
       -- it was under this key, or was gone before
-      module _ (k : BlockIdShort) (f : Entry) (h : block_under gs₀ k ≡ some f) (g : block_under gs' k ≡ none) where
-        gone_how : ((k ≡ key i) × (f ≡ e)) ⊎ (block_under gs k ≡ none)
+      module _ (k : BlockIdShort) (f : Entry) (h : block_under gs₀ k ≡ Some f) (g : block_under gs' k ≡ None) where
+        gone_how : ((k ≡ key i) × (f ≡ e)) ⊎ (block_under gs k ≡ None)
         gone_how = by_key (key_dec k (key i))
           where
-            by_key : Dec (k ≡ key i) → ((k ≡ key i) × (f ≡ e)) ⊎ (block_under gs k ≡ none)
-            by_key (yes s) = let h' : block_under gs₀ (key i) ≡ some f = rw s at h in let w = was in inl (s, cc)
+            by_key : Dec (k ≡ key i) → ((k ≡ key i) × (f ≡ e)) ⊎ (block_under gs k ≡ None)
+            by_key (yes s) = let h' : block_under gs₀ (key i) ≡ Some f = rw s at h in let w = was in inl (s, cc)
             by_key (no d) = inr (sym (others k d) ∙ g)
 
       -- naming another master, it is dropped
@@ -189,12 +189,12 @@ module _ (gs₀ : List ShardModel) (mm : ℕ) (R : BlockId → Type 0) (ids₀ :
             once = v.once;
           }
         where
-          joined_by : (k : BlockIdShort) (f : Entry) → block_under gs₀ k ≡ some f → f.reference ≡ mm → ((k ≡ key i) × (f ≡ e)) ⊎ (block_under gs k ≡ none) → Memᴰ f js
+          joined_by : (k : BlockIdShort) (f : Entry) → block_under gs₀ k ≡ Some f → f.reference ≡ mm → ((k ≡ key i) × (f ≡ e)) ⊎ (block_under gs k ≡ None) → Memᴰ f js
           joined_by k f h n (inl s) = absurd (no_name (rw s.1 at n))
           joined_by k f h n (inr g) = v.gone_joined k f h g n
 
-          seen_by : (k : BlockIdShort) (f : Entry) → block_under gs₀ k ≡ some f → f.reference ≡ mm → (p : BlockId) → Memᴰ p f.previous →
-              ((k ≡ key i) × (f ≡ e)) ⊎ (block_under gs k ≡ none) → Seen rest gs' p
+          seen_by : (k : BlockIdShort) (f : Entry) → block_under gs₀ k ≡ Some f → f.reference ≡ mm → (p : BlockId) → Memᴰ p f.previous →
+              ((k ≡ key i) × (f ≡ e)) ⊎ (block_under gs k ≡ None) → Seen rest gs' p
           seen_by k f h n p u (inl s) = absurd (no_name (rw s.1 at n))
           seen_by k f h n p u (inr g) = seen_now rest (λ p r. r) p (v.gone_seen k f h g n p u)
 
@@ -218,12 +218,12 @@ module _ (gs₀ : List ShardModel) (mm : ℕ) (R : BlockId → Type 0) (ids₀ :
           waits j (inl u) = v.waiting_reached j (Memᴰ.tail u)
           waits j (inr u) = closed i e j reached_now was name u
 
-          joined_by : (k : BlockIdShort) (f : Entry) → block_under gs₀ k ≡ some f → f.reference ≡ mm → ((k ≡ key i) × (f ≡ e)) ⊎ (block_under gs k ≡ none) → Memᴰ f (e ∷ js)
+          joined_by : (k : BlockIdShort) (f : Entry) → block_under gs₀ k ≡ Some f → f.reference ≡ mm → ((k ≡ key i) × (f ≡ e)) ⊎ (block_under gs k ≡ None) → Memᴰ f (e ∷ js)
           joined_by k f h n (inl s) = Memᴰ.head s.1
           joined_by k f h n (inr g) = Memᴰ.tail (v.gone_joined k f h g n)
 
-          seen_by : (k : BlockIdShort) (f : Entry) → block_under gs₀ k ≡ some f → f.reference ≡ mm → (p : BlockId) → Memᴰ p f.previous →
-              ((k ≡ key i) × (f ≡ e)) ⊎ (block_under gs k ≡ none) → Seen (rest ++ e.previous) gs' p
+          seen_by : (k : BlockIdShort) (f : Entry) → block_under gs₀ k ≡ Some f → f.reference ≡ mm → (p : BlockId) → Memᴰ p f.previous →
+              ((k ≡ key i) × (f ≡ e)) ⊎ (block_under gs k ≡ None) → Seen (rest ++ e.previous) gs' p
           seen_by k f h n p u (inl s) = inl (Memᴰ.append_right rest (rw s.1 at u))
           seen_by k f h n p u (inr g) = seen_now (rest ++ e.previous) more p (v.gone_seen k f h g n p u)
 
@@ -244,8 +244,8 @@ module _ (gs₀ : List ShardModel) (mm : ℕ) (R : BlockId → Type 0) (ids₀ :
 
     found_keeps : (i : BlockId) (rest : List BlockId) (w : Walk) (o : Option Entry) → block_under w.shards (key i) ≡ o →
         Inv (i ∷ rest) w.shards w.joined → Keeps (take_found mm i rest w o)
-    found_keeps i rest w none h v = skip i rest w.shards w.joined h v
-    found_keeps i rest w (some e) h v =
+    found_keeps i rest w None h v = skip i rest w.shards w.joined h v
+    found_keeps i rest w (Some e) h v =
         on (eqb e.reference mm)
         (λ t. rw t
         (joins i rest w.shards (refresh_shard (key i) (remove_block (key i) w.shards)) w.joined e h

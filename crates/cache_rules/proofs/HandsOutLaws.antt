@@ -1,10 +1,10 @@
 -- What a pop or a sync extraction hands out and leaves, told by the reached ids.
 -- Assumes nothing.
+use Rattle.std.specs.Prelude.{None, Some, map, filter}
 use mathlib.Core.Bool.{true}
 use mathlib.Core.List.Memᴰ
 use mathlib.Core.List.{List, Memᴰ, [], ◌∷◌}
 use mathlib.Core.Logic.{◌↔◌, ◌≢◌, ◌⊎◌, inl, inr}
-use mathlib.Core.Option.{none, some}
 use mathlib.Core.Path.{◌∙◌, ◌≡◌, ap, refl, subst, sym}
 use Prim.Native.Nat.{◌+◌, ℕ}
 use native.Mathlib.Nat.{le_refl}
@@ -20,7 +20,6 @@ use Rattle.block_records.proofs.rules.Tests.{and_intro, and_left, and_right, on}
 use Rattle.block_records.specs.layout.Entry.{pack_entry}
 use Rattle.block_records.specs.rules.BlockId.{key}
 use Rattle.block_records.specs.rules.Entry.{Entry}
-use Rattle.block_records.specs.rules.Lists.{each, select}
 use Rattle.cache_rules.proofs.ExtractionLaws.{Inv, Kept, OnceEntries, Seen, begin, ends, times_keeps}
 use Rattle.cache_rules.proofs.SoundLaws.{cached_lookup, lookup_cached, lookup_key}
 use Rattle.cache_rules.specs.Claim.{Joins, Once, Reached, by_previous, by_top}
@@ -30,24 +29,24 @@ use Rattle.cache_rules.specs.Refusals.{sound_model}
 
 -- ===== the starting ids =====
 
-start_item : (z : ℕ) (ts : List TopBlock) {i : BlockId} → Memᴰ i (each top_id (select (starts z) ts)) →
+start_item : (z : ℕ) (ts : List TopBlock) {i : BlockId} → Memᴰ i (map top_id (filter (starts z) ts)) →
     (t : TopBlock) × Memᴰ t ts × (starts z t ≡ true) × (i ≡ t.block_id)
 start_item z [] u = absurd (Memᴰ.not-nil u)
 start_item z (t ∷ ts) {i} u =
-    let later : Memᴰ i (each top_id (select (starts z) ts)) → (t' : TopBlock) × Memᴰ t' (t ∷ ts) × (starts z t' ≡ true) × (i ≡ t'.block_id) =
+    let later : Memᴰ i (map top_id (filter (starts z) ts)) → (t' : TopBlock) × Memᴰ t' (t ∷ ts) × (starts z t' ≡ true) × (i ≡ t'.block_id) =
     λ v. let r = start_item z ts v in (r.0, Memᴰ.tail r.1, r.2, r.3) in
     on (starts z t) (λ s. by s later (Memᴰ.cases_cons (rw s at u))) (λ s. later (rw s at u))
   where
-    by : starts z t ≡ true → (Memᴰ i (each top_id (select (starts z) ts)) → (t' : TopBlock) × Memᴰ t' (t ∷ ts) × (starts z t' ≡ true) × (i ≡ t'.block_id)) →
-        (i ≡ t.block_id) ⊎ Memᴰ i (each top_id (select (starts z) ts)) → (t' : TopBlock) × Memᴰ t' (t ∷ ts) × (starts z t' ≡ true) × (i ≡ t'.block_id)
+    by : starts z t ≡ true → (Memᴰ i (map top_id (filter (starts z) ts)) → (t' : TopBlock) × Memᴰ t' (t ∷ ts) × (starts z t' ≡ true) × (i ≡ t'.block_id)) →
+        (i ≡ t.block_id) ⊎ Memᴰ i (map top_id (filter (starts z) ts)) → (t' : TopBlock) × Memᴰ t' (t ∷ ts) × (starts z t' ≡ true) × (i ≡ t'.block_id)
     by s later (inl e) = (t, Memᴰ.head refl, s, e)
     by s later (inr v) = later v
 
-item_starts : (z : ℕ) (ts : List TopBlock) {t : TopBlock} → Memᴰ t ts → starts z t ≡ true → Memᴰ t.block_id (each top_id (select (starts z) ts))
+item_starts : (z : ℕ) (ts : List TopBlock) {t : TopBlock} → Memᴰ t ts → starts z t ≡ true → Memᴰ t.block_id (map top_id (filter (starts z) ts))
 item_starts z [] u s = absurd (Memᴰ.not-nil u)
 item_starts z (x ∷ ts) {t} u s = by (Memᴰ.cases_cons u) (λ (v : Memᴰ t ts). item_starts z ts v s)
   where
-    by : (t ≡ x) ⊎ Memᴰ t ts → (Memᴰ t ts → Memᴰ t.block_id (each top_id (select (starts z) ts))) → Memᴰ t.block_id (each top_id (select (starts z) (x ∷ ts)))
+    by : (t ≡ x) ⊎ Memᴰ t ts → (Memᴰ t ts → Memᴰ t.block_id (map top_id (filter (starts z) ts))) → Memᴰ t.block_id (map top_id (filter (starts z) (x ∷ ts)))
     by (inl e) ih = let s' : starts z x ≡ true = rw e at s in rw s' (Memᴰ.head (ap top_id e))
     by (inr v) ih = on (starts z x) (λ s'. rw s' (Memᴰ.tail (ih v))) (λ s'. rw s' (ih v))
 
@@ -68,10 +67,10 @@ module _ (m : Model) (M : Entry) (ok : sound_model m ≡ true) where
       (by_top t r.1 (and_left t.updated (ltb m.zerostate t.ref_by_mc_seqno) r.2)
       (ltb-true m.zerostate t.ref_by_mc_seqno (and_right t.updated (ltb m.zerostate t.ref_by_mc_seqno) r.2)))
 
-  key_of_found : (k : BlockIdShort) (e : Entry) → block_under m.shards k ≡ some e → key e.id ≡ k
+  key_of_found : (k : BlockIdShort) (e : Entry) → block_under m.shards k ≡ Some e → key e.id ≡ k
   key_of_found = lookup_key m ok
 
-  closed : (i : BlockId) (e : Entry) (p : BlockId) → Reached m M i → block_under m.shards (key i) ≡ some e → e.reference ≡ M.id.seqno →
+  closed : (i : BlockId) (e : Entry) (p : BlockId) → Reached m M i → block_under m.shards (key i) ≡ Some e → e.reference ≡ M.id.seqno →
       Memᴰ p e.previous → Reached m M p
   closed i e p r c n u = by_previous i e p r (lookup_cached m (key i) e c) n u
 
@@ -82,11 +81,11 @@ module _ (m : Model) (M : Entry) (ok : sound_model m ≡ true) where
   empty_end = ends (length ids + previous_cached m.shards) M.id.seqno w₀ (le_refl _)
 
   seen_gone : (p : BlockId) → Seen m.shards M.id.seqno (Reached m M) ids (extraction_of M m).waiting (extraction_of M m).shards p →
-      block_under (extraction_of M m).shards (key p) ≡ none
+      block_under (extraction_of M m).shards (key p) ≡ None
   seen_gone p (inl u) = absurd (Memᴰ.not-nil (subst (λ (q : List BlockId). Memᴰ p q) empty_end u))
   seen_gone p (inr g) = g
 
-  pub reached_left : (i : BlockId) → Reached m M i → block_under (extraction_of M m).shards (key i) ≡ none
+  pub reached_left : (i : BlockId) → Reached m M i → block_under (extraction_of M m).shards (key i) ≡ None
   reached_left i (by_top t u up above) =
       seen_gone t.block_id (at_end.starts_seen t.block_id (item_starts m.zerostate M.tops u (and_intro up (lt-ltb m.zerostate t.ref_by_mc_seqno above))))
   reached_left p (by_previous i e q r c n u) = seen_gone p (at_end.gone_seen (key i) e (cached_lookup m ok (key i) e c) (reached_left i r) n p u)
@@ -108,17 +107,17 @@ module _ (m : Model) (M : Entry) (ok : sound_model m ≡ true) where
   joins_joined b j =
       at_end.gone_joined (key j.under) j.block (cached_lookup m ok (key j.under) j.block j.cached) (reached_left j.under j.reached) j.names
 
-  pub exactly : (b : BlockCacheEntry) → Memᴰ b (each pack_entry (extraction_of M m).joined) ↔ Joins m M b
+  pub exactly : (b : BlockCacheEntry) → Memᴰ b (map pack_entry (extraction_of M m).joined) ↔ Joins m M b
   exactly b = (
     (λ u. let r = member_each pack_entry (extraction_of M m).joined u in subst (Joins m M) (sym r.2) (joined_joins r.0 r.1)),
-    λ j. subst (λ (x : BlockCacheEntry). Memᴰ x (each pack_entry (extraction_of M m).joined)) (sym j.as_cached) (each_member pack_entry (extraction_of M m).joined (joins_joined b j)),
+    λ j. subst (λ (x : BlockCacheEntry). Memᴰ x (map pack_entry (extraction_of M m).joined)) (sym j.as_cached) (each_member pack_entry (extraction_of M m).joined (joins_joined b j)),
   )
 
   pub once_entries : OnceEntries (extraction_of M m).joined
   once_entries = at_end.once
 
 -- packing keeps the keys
-pub once_packed : (es : List Entry) → OnceEntries es → Once (each pack_entry es)
+pub once_packed : (es : List Entry) → OnceEntries es → Once (map pack_entry es)
 once_packed [] h = tt
 once_packed (e ∷ es) h = (
   (λ d u s. let r = member_each pack_entry es u in h.0 r.0 r.1 (sym (ap (λ (b : BlockCacheEntry). key b.block_id) r.2) ∙ s)),

@@ -1,8 +1,10 @@
 -- Each Received entry lies at or below its group's mark: what a store, a validation, an extraction or a removal makes of it.
 -- Assumes nothing.
+use Rattle.block_records.specs.declared.range.AppliedRange.{AppliedRange}
+use Rattle.std.specs.List.{list_all, fold}
+use Rattle.std.specs.Prelude.{Option, None, Some, cond, filter}
 use mathlib.Core.Bool.{Bool, ◌&&◌, ◌||◌, false, not, true}
 use mathlib.Core.List.{List, [], ◌∷◌}
-use mathlib.Core.Option.{Option, none, some}
 use mathlib.Core.Path.{◌≡◌, refl}
 use Prim.Native.Nat.{◌+◌, suc, zero, ℕ}
 use native.Mathlib.Nat.{le_refl}
@@ -23,27 +25,27 @@ use Rattle.block_records.proofs.rules.ListLaws.{every_each, every_member, every_
 use Rattle.block_records.proofs.rules.Tests.{and_left, and_right, clash, on, some_not_none}
 use Rattle.block_records.specs.rules.BlockId.{id_shard, is_masterchain, key, key_shard, same_id, same_shard}
 use Rattle.block_records.specs.rules.Entry.{Entry, is_applied, is_received, kind_received, same_status, with_kind}
-use Rattle.block_records.specs.rules.Lists.{every, fold, pick, put, select}
+use Rattle.block_records.specs.rules.Lists.{put}
 use Rattle.blocks_group.specs.rules.Group.{GroupModel, at_seqno, below_boundary, changed_entries, collated_above, collated_kind, entry_before, has_seqno, received_kind, refresh, refreshed_mark, store_collated_at, store_received_at, with_boundary, with_entries, without_collated_above}
 use Rattle.cache_rules.specs.Calls.{Validation}
 use Rattle.cache_rules.specs.Effects.{after, bound_one, collated_data, collect_shard, do_collect, do_store_collated, do_store_received, extracted_model, masters_without, peek_entry, pop_entry, remove_one, result_handle, result_status, result_weight, store_change, sync_entry, tail_ids_entry, validate_entry, validate_kind, validated_kind}
 use Rattle.cache_rules.specs.Extraction.{Walk, extraction_of, first_walk, previous_cached, starting_ids, take_found, take_id, take_one, take_times}
 use Rattle.cache_rules.specs.Marked.{entry_marked, group_marked, received_marked, shard_marked}
-use Rattle.cache_rules.specs.Model.{Model, Range, ShardModel, block_under, entry_for, find_shard, group_for, group_in, is_shard, moved_start, on_shard, remove_block, shard_before, with_group}
+use Rattle.cache_rules.specs.Model.{Model, ShardModel, block_under, entry_for, find_shard, group_for, group_in, is_shard, moved_start, on_shard, remove_block, shard_before, with_group}
 use Rattle.cache_rules.specs.Refusals.{is_synced, mark_reaches}
 
 -- ===== one group =====
 
 -- the mark only rises
 reaches_refreshed : (n s : ℕ) (k : Option ℕ) → mark_reaches n k ≡ true → mark_reaches n (refreshed_mark s k) ≡ true
-reaches_refreshed n s none h = clash h refl
-reaches_refreshed n s (some k) h =
+reaches_refreshed n s None h = clash h refl
+reaches_refreshed n s (Some k) h =
     on (leb s k) (λ t. rw t h) (λ t. rw t (le-leb n s (omega (arith, leb-true n k h, leb-false s k t))))
 
 -- .. and it reaches the seqno that it was refreshed by
 refreshed_reaches : (s : ℕ) (k : Option ℕ) → mark_reaches s (refreshed_mark s k) ≡ true
-refreshed_reaches s none = le-leb s s (le_refl s)
-refreshed_reaches s (some k) = on (leb s k) (λ t. rw t t) (λ t. rw t (le-leb s s (le_refl s)))
+refreshed_reaches s None = le-leb s s (le_refl s)
+refreshed_reaches s (Some k) = on (leb s k) (λ t. rw t t) (λ t. rw t (le-leb s s (le_refl s)))
 
 entry_refreshed : (s : ℕ) (k : Option ℕ) (e : Entry) → entry_marked k e ≡ true → entry_marked (refreshed_mark s k) e ≡ true
 entry_refreshed s k e h =
@@ -52,19 +54,19 @@ entry_refreshed s k e h =
 group_refreshed : (s : ℕ) (g : GroupModel) → group_marked g ≡ true → group_marked (refresh s g) ≡ true
 group_refreshed s g h = every_weaken (entry_marked g.mark) (entry_marked (refreshed_mark s g.mark)) g.entries (entry_refreshed s g.mark) h
 
-group_filtered : (q : Entry → Bool) (g : GroupModel) → group_marked g ≡ true → group_marked (with_entries (select q g.entries) g) ≡ true
+group_filtered : (q : Entry → Bool) (g : GroupModel) → group_marked g ≡ true → group_marked (with_entries (filter q g.entries) g) ≡ true
 group_filtered q g h = every_select (entry_marked g.mark) q g.entries h
 
 -- what a store changes, if anything, is marked
 abbrev ChangeMarked : Option ℕ → Option Entry → Type 0
-ChangeMarked k none = Unit {0}
-ChangeMarked k (some e) = entry_marked k e ≡ true
+ChangeMarked k None = Unit {0}
+ChangeMarked k (Some e) = entry_marked k e ≡ true
 
 group_changed : (c : Option Entry) (g : GroupModel) → ChangeMarked g.mark c → group_marked g ≡ true → group_marked (with_entries (changed_entries c g.entries) g) ≡ true
-group_changed none g f h = h
-group_changed (some e) g f h = every_put (entry_marked g.mark) entry_before e g.entries f h
+group_changed None g f h = h
+group_changed (Some e) g f h = every_put (entry_marked g.mark) entry_before e g.entries f h
 
-pub found_marked : (n : ℕ) (g : GroupModel) {e : Entry} → group_marked g ≡ true → at_seqno n g.entries ≡ some e → entry_marked g.mark e ≡ true
+pub found_marked : (n : ℕ) (g : GroupModel) {e : Entry} → group_marked g ≡ true → at_seqno n g.entries ≡ Some e → entry_marked g.mark e ≡ true
 found_marked n g h f = every_member (entry_marked g.mark) g.entries h (find_member (has_seqno n) g.entries f)
 
 -- ===== what the two stores change =====
@@ -79,14 +81,14 @@ received_same (received after more) = refl
 
 collated_change : (c : BlockCandidate) (n : ℕ) (g : GroupModel) (o : Option Entry) → group_marked g ≡ true → at_seqno n g.entries ≡ o →
     ChangeMarked g.mark (store_collated_at c o).change
-collated_change c n g none h f = refl
-collated_change c n g (some e) h f =
+collated_change c n g None h f = refl
+collated_change c n g (Some e) h f =
     on (same_id e.id c.block_id) (λ t. rw (t, collated_same c e.kind) (found_marked n g h f)) (λ t. rw t tt)
 
 received_change : (z : ℕ) (r : ReceivedBlock) (n : ℕ) (g : GroupModel) (o : Option Entry) → group_marked g ≡ true → at_seqno n g.entries ≡ o →
     ChangeMarked (refreshed_mark r.block_id.seqno g.mark) (store_received_at z r o).change
-received_change z r n g none h f = refreshed_reaches r.block_id.seqno g.mark
-received_change z r n g (some e) h f =
+received_change z r n g None h f = refreshed_reaches r.block_id.seqno g.mark
+received_change z r n g (Some e) h f =
     on (same_id e.id r.block_id)
     (λ t. rw (t, received_same e.kind) (entry_refreshed r.block_id.seqno g.mark e (found_marked n g h f)))
     (λ t. rw t (refreshed_reaches r.block_id.seqno g.mark))
@@ -94,24 +96,24 @@ received_change z r n g (some e) h f =
 -- ===== the shard groups =====
 
 on_marked : (s : ShardIdent) (f : GroupModel → GroupModel) (gs : List ShardModel) → ((g : GroupModel) → group_marked g ≡ true → group_marked (f g) ≡ true) →
-    every shard_marked gs ≡ true → every shard_marked (on_shard s f gs) ≡ true
+    list_all shard_marked gs ≡ true → list_all shard_marked (on_shard s f gs) ≡ true
 on_marked s f gs keeps h =
-    every_each (λ (g : ShardModel). pick (is_shard s g) (record { shard = g.shard; group = f g.group }) g) shard_marked shard_marked gs
+    every_each (λ (g : ShardModel). cond (is_shard s g) (record { shard = g.shard; group = f g.group }) g) shard_marked shard_marked gs
     (λ g ok. on (same_shard g.shard s) (λ t. rw t (keeps g.group ok)) (λ t. rw t ok)) h
 
-group_in_marked : (s : ShardIdent) (o : Option ShardModel) (gs : List ShardModel) → every shard_marked gs ≡ true → find_shard s gs ≡ o → group_marked (group_in o) ≡ true
-group_in_marked s none gs h f = refl
-group_in_marked s (some g) gs h f = every_member shard_marked gs h (find_member (is_shard s) gs f)
+group_in_marked : (s : ShardIdent) (o : Option ShardModel) (gs : List ShardModel) → list_all shard_marked gs ≡ true → find_shard s gs ≡ o → group_marked (group_in o) ≡ true
+group_in_marked s None gs h f = refl
+group_in_marked s (Some g) gs h f = every_member shard_marked gs h (find_member (is_shard s) gs f)
 
 -- ===== the model =====
 
 pub record Marked (m : Model) : Type 0 where
   pub masters : group_marked m.masters ≡ true
-  pub shards : every shard_marked m.shards ≡ true
+  pub shards : list_all shard_marked m.shards ≡ true
 
 pub marked_parts : (m : Model) → received_marked m ≡ true → Marked m
 marked_parts m h =
-    record { masters = and_left (group_marked m.masters) (every shard_marked m.shards) h; shards = and_right (group_marked m.masters) (every shard_marked m.shards) h }
+    record { masters = and_left (group_marked m.masters) (list_all shard_marked m.shards) h; shards = and_right (group_marked m.masters) (list_all shard_marked m.shards) h }
 
 -- the group that a block of a shard is stored in
 pub group_for_marked : (s : ShardIdent) (m : Model) → Marked m → group_marked (group_for s m) ≡ true
@@ -127,10 +129,10 @@ with_group_marked s g m h ok =
 -- ===== the two stores =====
 
 change_marked : (s : ShardIdent) (o : Option Entry) (m : Model) → Marked m → ChangeMarked (group_for s m).mark o → Marked (store_change s o m)
-change_marked s none m h f = h
-change_marked s (some e) m h f =
+change_marked s None m h f = h
+change_marked s (Some e) m h f =
     with_group_marked s (with_entries (put entry_before e (group_for s m).entries) (group_for s m)) m h
-    (group_changed (some e) (group_for s m) f (group_for_marked s m h))
+    (group_changed (Some e) (group_for s m) f (group_for_marked s m h))
 
 data_marked : (i : BlockId) (mismatch : Bool) (m : Model) → Marked m → Marked (collated_data i mismatch m)
 data_marked i mismatch m h =
@@ -156,42 +158,42 @@ received_marks r m h =
 
 -- ===== validation =====
 
-validated_collated : (v : Validation) (k : BlockCacheEntryData) {k' : BlockCacheEntryData} → validated_kind v k ≡ some k' → kind_received k' ≡ false
+validated_collated : (v : Validation) (k : BlockCacheEntryData) {k' : BlockCacheEntryData} → validated_kind v k ≡ Some k' → kind_received k' ≡ false
 validated_collated v (received after more) h = some_not_none h refl
 validated_collated v (collated st after handle weight processed) {k'} h =
     on (same_status st Synced || same_status st (result_status v))
     (λ t. some_not_none (rw t at h) refl)
-    (λ t. let q : some (collated (result_status v) after (result_handle v) (result_weight v) processed) ≡ some k' = rw t at h in
+    (λ t. let q : Some (collated (result_status v) after (result_handle v) (result_weight v) processed) ≡ Some k' = rw t at h in
     let e : k' ≡ collated (result_status v) after (result_handle v) (result_weight v) processed = cc in
     rw e)
 
 validate_kind_marked : (v : Validation) (e : Entry) (o : Option BlockCacheEntryData) (m : Model) → Marked m → validated_kind v e.kind ≡ o → Marked (validate_kind v e o m).model
-validate_kind_marked v e none m h f = h
-validate_kind_marked v e (some k) m h f =
-    record { masters = group_changed (some (with_kind k e)) m.masters (rw (validated_collated v e.kind f)) h.masters; shards = h.shards }
+validate_kind_marked v e None m h f = h
+validate_kind_marked v e (Some k) m h f =
+    record { masters = group_changed (Some (with_kind k e)) m.masters (rw (validated_collated v e.kind f)) h.masters; shards = h.shards }
 
 pub validate_marked : (v : Validation) (o : Option Entry) (m : Model) → Marked m → Marked (validate_entry v o m).model
-validate_marked v none m h = h
-validate_marked v (some e) m h = validate_kind_marked v e (validated_kind v e.kind) m h refl
+validate_marked v None m h = h
+validate_marked v (Some e) m h = validate_kind_marked v e (validated_kind v e.kind) m h refl
 
 -- ===== extraction =====
 
-found_shards : (mm : ℕ) (i : BlockId) (q : List BlockId) (w : Walk) (o : Option Entry) → every shard_marked w.shards ≡ true → every shard_marked (take_found mm i q w o).shards ≡ true
-found_shards mm i q w none h = h
-found_shards mm i q w (some e) h =
-    let l : every shard_marked (remove_block (key i) w.shards) ≡ true =
+found_shards : (mm : ℕ) (i : BlockId) (q : List BlockId) (w : Walk) (o : Option Entry) → list_all shard_marked w.shards ≡ true → list_all shard_marked (take_found mm i q w o).shards ≡ true
+found_shards mm i q w None h = h
+found_shards mm i q w (Some e) h =
+    let l : list_all shard_marked (remove_block (key i) w.shards) ≡ true =
     on_marked (id_shard i) _ w.shards (group_filtered (λ (x : Entry). not (has_seqno i.seqno x))) h in
     on (eqb e.reference mm) (λ t. rw t (on_marked (id_shard i) (refresh i.seqno) (remove_block (key i) w.shards) (group_refreshed i.seqno) l)) (λ t. rw t l)
 
-id_shards : (mm : ℕ) (w : Walk) (q : List BlockId) → every shard_marked w.shards ≡ true → every shard_marked (take_id mm w q).shards ≡ true
+id_shards : (mm : ℕ) (w : Walk) (q : List BlockId) → list_all shard_marked w.shards ≡ true → list_all shard_marked (take_id mm w q).shards ≡ true
 id_shards mm w [] h = h
 id_shards mm w (i ∷ q) h = found_shards mm i q w (block_under w.shards (key i)) h
 
-times_shards : (k mm : ℕ) (w : Walk) → every shard_marked w.shards ≡ true → every shard_marked (take_times k mm w).shards ≡ true
+times_shards : (k mm : ℕ) (w : Walk) → list_all shard_marked w.shards ≡ true → list_all shard_marked (take_times k mm w).shards ≡ true
 times_shards zero mm w h = h
 times_shards (suc k) mm w h = times_shards k mm (take_one mm w) (id_shards mm w w.waiting h)
 
-extracted_marked : (M : Entry) (m : Model) (masters : GroupModel) (range : Option Range) → Marked m → group_marked masters ≡ true →
+extracted_marked : (M : Entry) (m : Model) (masters : GroupModel) (range : Option AppliedRange) → Marked m → group_marked masters ≡ true →
     Marked (extracted_model M (extraction_of M m) masters range m)
 extracted_marked M m masters range h ok =
     let ids = starting_ids m.zerostate M in
@@ -201,22 +203,22 @@ masters_left : (M : Entry) (m : Model) → Marked m → group_marked (masters_wi
 masters_left M m h = group_filtered (λ (x : Entry). not (has_seqno M.id.seqno x)) m.masters h.masters
 
 pub pop_marked : (o : Option Entry) (m : Model) → Marked m → Marked (pop_entry o m).model
-pop_marked none m h = h
-pop_marked (some M) m h = extracted_marked M m (masters_without M m) (moved_start M.id.seqno m.range) h (masters_left M m h)
+pop_marked None m h = h
+pop_marked (Some M) m h = extracted_marked M m (masters_without M m) (moved_start M.id.seqno m.range) h (masters_left M m h)
 
 pub sync_marked : (o : Option Entry) (m : Model) → Marked m → Marked (sync_entry o m).model
-sync_marked none m h = h
-sync_marked (some M) m h =
-    extracted_marked M m (refresh M.id.seqno (masters_without M m)) (pick (is_applied M) (moved_start M.id.seqno m.range) m.range) h
+sync_marked None m h = h
+sync_marked (Some M) m h =
+    extracted_marked M m (refresh M.id.seqno (masters_without M m)) (cond (is_applied M) (moved_start M.id.seqno m.range) m.range) h
     (group_refreshed M.id.seqno (masters_without M m) (masters_left M m h))
 
 pub peek_marked : (o : Option Entry) (m : Model) → Marked m → Marked (peek_entry o m).model
-peek_marked none m h = h
-peek_marked (some e) m h = h
+peek_marked None m h = h
+peek_marked (Some e) m h = h
 
 pub tails_marked : (o : Option Entry) (m : Model) → Marked m → Marked (tail_ids_entry o m).model
-tails_marked none m h = h
-tails_marked (some e) m h = h
+tails_marked None m h = h
+tails_marked (Some e) m h = h
 
 -- ===== boundary, collect, remove next collated =====
 

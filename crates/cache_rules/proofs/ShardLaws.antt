@@ -1,9 +1,10 @@
 -- The shard groups: what is found after a change, and which changes leave them sound.
 -- Assumes nothing.
+use Rattle.std.specs.List.{list_all}
+use Rattle.std.specs.Prelude.{Option, None, Some, cond, is_some, filter}
 use mathlib.Core.Bool.{Bool, ◌||◌, false, not, true}
 use mathlib.Core.List.{List, [], ◌∷◌}
 use mathlib.Core.Logic.{◌≢◌}
-use mathlib.Core.Option.{Option, none, some}
 use mathlib.Core.Path.{◌∙◌, ◌≡◌, refl, sym}
 use Prim.Native.Nat.{◌+◌, ◌≤◌, ℕ}
 use native.Mathlib.Nat.{le_refl}
@@ -19,7 +20,7 @@ use Rattle.block_records.proofs.rules.ListLaws.{by_order, every_each, every_memb
 use Rattle.block_records.proofs.rules.Tests.{and_intro, and_left, and_right, on, some_not_none}
 use Rattle.block_records.specs.rules.BlockId.{is_masterchain, key_shard, less_shard, same_shard}
 use Rattle.block_records.specs.rules.Entry.{Entry}
-use Rattle.block_records.specs.rules.Lists.{every, pick, present, rising, select}
+use Rattle.block_records.specs.rules.Lists.{rising}
 use Rattle.blocks_group.proofs.rules.GroupLaws.{at_without_other, at_without_same}
 use Rattle.blocks_group.specs.rules.Group.{GroupModel, at_seqno, has_seqno, refresh, with_entries, without}
 use Rattle.blocks_group.specs.rules.Soundness.{of_shard, sound_group_model}
@@ -50,7 +51,7 @@ module _ (f : GroupModel → GroupModel) where
 
   -- a change after which nothing is found at the seqno
   lookup_on_none : (gs : List ShardModel) (k : BlockIdShort) →
-      ((g : GroupModel) → at_seqno k.seqno (f g).entries ≡ none) → block_under (on_shard (key_shard k) f gs) k ≡ none
+      ((g : GroupModel) → at_seqno k.seqno (f g).entries ≡ None) → block_under (on_shard (key_shard k) f gs) k ≡ None
   lookup_on_none [] k same = refl
   lookup_on_none (g ∷ gs) k same =
       on (same_shard g.shard (key_shard k)) (λ e. rw (e, e) (same g.group)) (λ e. rw (e, e) (lookup_on_none gs k same))
@@ -60,7 +61,7 @@ module _ (f : GroupModel → GroupModel) where
 abbrev remove_at : ℕ → GroupModel → GroupModel
 remove_at n g = with_entries (without n g.entries) g
 
-pub lookup_removed : (k : BlockIdShort) (gs : List ShardModel) → block_under (remove_block k gs) k ≡ none
+pub lookup_removed : (k : BlockIdShort) (gs : List ShardModel) → block_under (remove_block k gs) k ≡ None
 lookup_removed k gs = lookup_on_none (remove_at k.seqno) gs k (λ g. at_without_same k.seqno g.entries)
 
 -- the same shard under another seqno
@@ -84,15 +85,15 @@ lookup_refreshed k gs j =
 
 -- ===== the previous ids in the cache =====
 
-previous_select : (p : Entry → Bool) (es : List Entry) → previous_in (select p es) ≤ previous_in es
+previous_select : (p : Entry → Bool) (es : List Entry) → previous_in (filter p es) ≤ previous_in es
 previous_select p [] = le_refl 0
 previous_select p (e ∷ es) = let ih = previous_select p es in on (p e) (λ h. rw h (omega arith)) (λ h. rw h (omega arith))
 
-previous_without : (n : ℕ) (es : List Entry) {e : Entry} → at_seqno n es ≡ some e → previous_in (without n es) + length e.previous ≤ previous_in es
+previous_without : (n : ℕ) (es : List Entry) {e : Entry} → at_seqno n es ≡ Some e → previous_in (without n es) + length e.previous ≤ previous_in es
 previous_without n [] h = some_not_none h refl
 previous_without n (x ∷ es) {e} h =
     on (has_seqno n x)
-    (λ t. let q : some x ≡ some e = rw t at h in let r : e ≡ x = cc in
+    (λ t. let q : Some x ≡ Some e = rw t at h in let r : e ≡ x = cc in
     rw (t, r) (omega (arith, previous_select (λ (e : Entry). not (has_seqno n e)) es)))
     (λ t. let ih = previous_without n es {e = e} (rw t at h) in rw t (omega arith))
 
@@ -102,7 +103,7 @@ previous_on s f [] le = le_refl 0
 previous_on s f (g ∷ gs) le =
     let ih = previous_on s f gs le in on (same_shard g.shard s) (λ t. rw t (omega (arith, le g.group))) (λ t. rw t (omega arith))
 
-pub previous_removed : (k : BlockIdShort) (gs : List ShardModel) {e : Entry} → block_under gs k ≡ some e → previous_cached (remove_block k gs) + length e.previous ≤ previous_cached gs
+pub previous_removed : (k : BlockIdShort) (gs : List ShardModel) {e : Entry} → block_under gs k ≡ Some e → previous_cached (remove_block k gs) + length e.previous ≤ previous_cached gs
 previous_removed k [] h = some_not_none h refl
 previous_removed k (g ∷ gs) {e} h =
     on (same_shard g.shard (key_shard k))
@@ -121,10 +122,10 @@ previous_refreshed k gs = previous_on (key_shard k) (refresh k.seqno) gs (λ g. 
 pub record ShardsOk (gs : List ShardModel) : Type 0 where
   pub count : leb (length gs) 8 ≡ true
   pub order : rising shard_before gs ≡ true
-  pub each_ok : every sound_shard_model gs ≡ true
+  pub each_ok : list_all sound_shard_model gs ≡ true
 
 change_one : ShardIdent → (GroupModel → GroupModel) → ShardModel → ShardModel
-change_one s f g = pick (is_shard s g) (record { shard = g.shard; group = f g.group }) g
+change_one s f g = cond (is_shard s g) (record { shard = g.shard; group = f g.group }) g
 
 changed_shard : (s : ShardIdent) (f : GroupModel → GroupModel) (g : ShardModel) → (change_one s f g).shard ≡ g.shard
 unfolding change_one
@@ -152,9 +153,9 @@ shards_change s f gs keeps h =
         (λ t. rw t ok)
 
 -- the group of a shard is sound, where there is none too
-shard_found : (s : ShardIdent) (o : Option ShardModel) (gs : List ShardModel) → every sound_shard_model gs ≡ true → find_shard s gs ≡ o → sound_group_model (of_shard s) (group_in o) ≡ true
-shard_found s none gs h f = refl
-shard_found s (some x) gs h f =
+shard_found : (s : ShardIdent) (o : Option ShardModel) (gs : List ShardModel) → list_all sound_shard_model gs ≡ true → find_shard s gs ≡ o → sound_group_model (of_shard s) (group_in o) ≡ true
+shard_found s None gs h f = refl
+shard_found s (Some x) gs h f =
     let e : x.shard ≡ s = same_shard_true x.shard s (find_passes (is_shard s) gs f) in
     let ok = every_member sound_shard_model gs h (find_member (is_shard s) gs f) in
     let w : sound_group_model (of_shard x.shard) x.group ≡ true = and_right (not (is_masterchain x.shard)) (sound_group_model (of_shard x.shard) x.group) ok in
@@ -167,10 +168,10 @@ abbrev model_shard : ShardModel → ShardIdent
 model_shard g = g.shard
 
 -- a shard's group set: at its place if there is one, else there must be room
-set_length : (s : ShardIdent) (g : GroupModel) (o : Option ShardModel) (gs : List ShardModel) → ShardsOk gs → find_shard s gs ≡ o → present o || ltb (length gs) 8 ≡ true →
+set_length : (s : ShardIdent) (g : GroupModel) (o : Option ShardModel) (gs : List ShardModel) → ShardsOk gs → find_shard s gs ≡ o → is_some o || ltb (length gs) 8 ≡ true →
     length (set_group s g gs) ≤ 8
-set_length s g none gs h f room = omega (arith, length_put shard_before (record { shard = s; group = g }) gs, ltb-true (length gs) 8 room)
-set_length s g (some x) gs h f room =
+set_length s g None gs h f room = omega (arith, length_put shard_before (record { shard = s; group = g }) gs, ltb-true (length gs) 8 room)
+set_length s g (Some x) gs h f room =
     let e : x.shard ≡ s = same_shard_true x.shard s (find_passes (is_shard s) gs f) in
     let a : less_shard s x.shard ≡ false = rw e (shard_order.irrefl s) in
     let b : less_shard x.shard s ≡ false = rw e (shard_order.irrefl s) in
@@ -181,7 +182,7 @@ set_length s g (some x) gs h f room =
     )
 
 pub shards_set : (s : ShardIdent) (g : GroupModel) (gs : List ShardModel) → ShardsOk gs → is_masterchain s ≡ false → sound_group_model (of_shard s) g ≡ true →
-    present (find_shard s gs) || ltb (length gs) 8 ≡ true → ShardsOk (set_group s g gs)
+    is_some (find_shard s gs) || ltb (length gs) 8 ≡ true → ShardsOk (set_group s g gs)
 shards_set s g gs h side ok room =
     record {
       count = le-leb (length (set_group s g gs)) 8 (set_length s g (find_shard s gs) gs h refl room);

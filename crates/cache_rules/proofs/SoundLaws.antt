@@ -1,9 +1,11 @@
 -- The parts of a sound model, by name; what is cached under a key is what is looked up.
 -- Assumes nothing.
+use Rattle.block_records.specs.declared.range.AppliedRange.{AppliedRange}
+use Rattle.std.specs.List.{list_all}
+use Rattle.std.specs.Prelude.{Option, None, Some}
 use mathlib.Core.Bool.{false, not, true}
 use mathlib.Core.List.{List, Memᴰ, [], ◌∷◌}
 use mathlib.Core.Logic.{◌↔◌, ◌⊎◌, inl, inr}
-use mathlib.Core.Option.{Option, none, some}
 use mathlib.Core.Path.{◌∙◌, ◌≡◌, refl, subst, sym}
 use Prim.Native.Nat.{ℕ}
 use borrow.Author.Tests.{eqb-true, le-leb, leb-true}
@@ -18,20 +20,20 @@ use Rattle.block_records.proofs.rules.ListLaws.{every_member}
 use Rattle.block_records.proofs.rules.Tests.{and_intro, and_left, and_right, clash, on, some_not_none}
 use Rattle.block_records.specs.rules.BlockId.{id_shard, is_masterchain, key, key_shard, less_shard, same_shard}
 use Rattle.block_records.specs.rules.Entry.{Entry}
-use Rattle.block_records.specs.rules.Lists.{every, rising}
+use Rattle.block_records.specs.rules.Lists.{rising}
 use Rattle.block_records.specs.rules.Questions.{entry_fits}
 use Rattle.blocks_group.proofs.rules.GroupLaws.{GroupParts, found_itself, group_parts}
 use Rattle.blocks_group.specs.rules.Group.{at_seqno, has_seqno}
 use Rattle.blocks_group.specs.rules.Soundness.{fits_in, of_shard, sound_group_model}
 use Rattle.cache_rules.proofs.ShardLaws.{ShardsOk}
 use Rattle.cache_rules.specs.Claim.{Cached, CachedMaster, RangeHolds, RangeOk}
-use Rattle.cache_rules.specs.Model.{Model, Range, ShardModel, block_under, id_before, shard_before}
+use Rattle.cache_rules.specs.Model.{Model, ShardModel, block_under, id_before, shard_before}
 use Rattle.cache_rules.specs.Refusals.{id_masterchain, sound_model, sound_range, sound_shard_model}
 
 pub record IdsOk (ids : List BlockId) : Type 0 where
   pub count : leb (length ids) 32 ≡ true
   pub order : rising id_before ids ≡ true
-  pub side : every id_masterchain ids ≡ true
+  pub side : list_all id_masterchain ids ≡ true
 
 -- all but the range
 pub record Rest (m : Model) : Type 0 where
@@ -43,16 +45,16 @@ pub record Parts (m : Model) : Type 0 where
   pub range : RangeOk m
   pub rest : Rest m
 
-range_fact : (k : Option ℕ) (r : Option Range) → sound_range k r ≡ true → RangeHolds k r
-range_fact k none h = tt
-range_fact none (some r) h = clash (and_right (leb r.start r.end) false h) refl
-range_fact (some k) (some r) h =
+range_fact : (k : Option ℕ) (r : Option AppliedRange) → sound_range k r ≡ true → RangeHolds k r
+range_fact k None h = tt
+range_fact None (Some r) h = clash (and_right (leb r.start r.end) false h) refl
+range_fact (Some k) (Some r) h =
     (leb-true r.start r.end (and_left (leb r.start r.end) (leb r.end k) h), leb-true r.end k (and_right (leb r.start r.end) (leb r.end k) h))
 
-range_test : (k : Option ℕ) (r : Option Range) → RangeHolds k r → sound_range k r ≡ true
-range_test k none h = refl
-range_test none (some r) h = absurd h.1
-range_test (some k) (some r) h = and_intro (le-leb r.start r.end h.0) (le-leb r.end k h.1)
+range_test : (k : Option ℕ) (r : Option AppliedRange) → RangeHolds k r → sound_range k r ≡ true
+range_test k None h = refl
+range_test None (Some r) h = absurd h.1
+range_test (Some k) (Some r) h = and_intro (le-leb r.start r.end h.0) (le-leb r.end k h.1)
 
 pub parts : (m : Model) → sound_model m ≡ true → Parts m
 unfolding sound_model
@@ -96,12 +98,12 @@ cached_fits m ok k e c = (shard_entry c.group (every_member sound_shard_model m.
 
 module _ (k : BlockIdShort) (e : Entry) where
   -- what is looked up is in a group of the shard
-  pub looked_up : (gs : List ShardModel) → block_under gs k ≡ some e →
+  pub looked_up : (gs : List ShardModel) → block_under gs k ≡ Some e →
       (g : ShardModel) × Memᴰ g gs × (g.shard ≡ key_shard k) × Memᴰ e g.group.entries × (e.id.seqno ≡ k.seqno)
   looked_up [] h = some_not_none h refl
   looked_up (g ∷ gs) h =
       on (same_shard g.shard (key_shard k))
-      (λ s. let f : at_seqno k.seqno g.group.entries ≡ some e = rw s at h in (
+      (λ s. let f : at_seqno k.seqno g.group.entries ≡ Some e = rw s at h in (
         g,
         mathlib.Core.List.Memᴰ.head refl,
         same_shard_true g.shard (key_shard k) s,
@@ -111,48 +113,48 @@ module _ (k : BlockIdShort) (e : Entry) where
       (λ s. let r = looked_up gs (rw s at h) in (r.0, mathlib.Core.List.Memᴰ.tail r.1, r.2, r.3, r.4))
 
   -- in rising groups, the group of a shard is the first found
-  member_looked_up : (gs : List ShardModel) → every sound_shard_model gs ≡ true → rising shard_before gs ≡ true → (g : ShardModel) → Memᴰ g gs → g.shard ≡ key_shard k →
-      Memᴰ e g.group.entries → e.id.seqno ≡ k.seqno → block_under gs k ≡ some e
+  member_looked_up : (gs : List ShardModel) → list_all sound_shard_model gs ≡ true → rising shard_before gs ≡ true → (g : ShardModel) → Memᴰ g gs → g.shard ≡ key_shard k →
+      Memᴰ e g.group.entries → e.id.seqno ≡ k.seqno → block_under gs k ≡ Some e
   member_looked_up [] ok r g u s v n = absurd (mathlib.Core.List.Memᴰ.not-nil u)
   member_looked_up (x ∷ gs) ok r g u s v n =
       by (mathlib.Core.List.Memᴰ.cases_cons u)
-      (λ (w : Memᴰ g gs). member_looked_up gs (and_right (sound_shard_model x) (every sound_shard_model gs) ok) (and_right (every (shard_before x) gs) (rising shard_before gs) r) g w s v n)
+      (λ (w : Memᴰ g gs). member_looked_up gs (and_right (sound_shard_model x) (list_all sound_shard_model gs) ok) (and_right (list_all (shard_before x) gs) (rising shard_before gs) r) g w s v n)
     where
-      by : (g ≡ x) ⊎ Memᴰ g gs → (Memᴰ g gs → block_under gs k ≡ some e) → block_under (x ∷ gs) k ≡ some e
+      by : (g ≡ x) ⊎ Memᴰ g gs → (Memᴰ g gs → block_under gs k ≡ Some e) → block_under (x ∷ gs) k ≡ Some e
       by (inl q) ih =
           let sx : x.shard ≡ key_shard k = subst (λ (y : ShardModel). y.shard ≡ key_shard k) q s in
           let vx : Memᴰ e x.group.entries = subst (λ (y : ShardModel). Memᴰ e y.group.entries) q v in
-          let f : at_seqno e.id.seqno x.group.entries ≡ some e = found_itself x.group.entries (shard_parts x (and_left (sound_shard_model x) (every sound_shard_model gs) ok)).order vx in
-          let f' : at_seqno k.seqno x.group.entries ≡ some e = subst (λ (y : ℕ). at_seqno y x.group.entries ≡ some e) n f in
+          let f : at_seqno e.id.seqno x.group.entries ≡ Some e = found_itself x.group.entries (shard_parts x (and_left (sound_shard_model x) (list_all sound_shard_model gs) ok)).order vx in
+          let f' : at_seqno k.seqno x.group.entries ≡ Some e = subst (λ (y : ℕ). at_seqno y x.group.entries ≡ Some e) n f in
           let t : same_shard x.shard (key_shard k) ≡ true = subst (λ (y : ShardIdent). same_shard x.shard y ≡ true) sx (same_shard_refl x.shard) in
           rw t f'
       by (inr w) ih =
-          let l : less_shard x.shard g.shard ≡ true = every_member (shard_before x) gs (and_left (every (shard_before x) gs) (rising shard_before gs) r) w in
+          let l : less_shard x.shard g.shard ≡ true = every_member (shard_before x) gs (and_left (list_all (shard_before x) gs) (rising shard_before gs) r) w in
           on (same_shard x.shard (key_shard k))
           (λ t. let q : x.shard ≡ g.shard = same_shard_true x.shard (key_shard k) t ∙ sym s in
           clash l (subst (λ (y : ShardIdent). less_shard x.shard y ≡ false) q (shard_order.irrefl x.shard)))
           (λ t. rw t (ih w))
 
-pub lookup_cached : (m : Model) (k : BlockIdShort) (e : Entry) → block_under m.shards k ≡ some e → Cached m k e
+pub lookup_cached : (m : Model) (k : BlockIdShort) (e : Entry) → block_under m.shards k ≡ Some e → Cached m k e
 lookup_cached m k e h =
     let r = looked_up k e m.shards h in record { group = r.0; among = r.1; of_its_shard = r.2; inside = r.3; at_its_seqno = r.4 }
 
-pub cached_lookup : (m : Model) → sound_model m ≡ true → (k : BlockIdShort) (e : Entry) → Cached m k e → block_under m.shards k ≡ some e
+pub cached_lookup : (m : Model) → sound_model m ≡ true → (k : BlockIdShort) (e : Entry) → Cached m k e → block_under m.shards k ≡ Some e
 cached_lookup m ok k e c =
     let p = (parts m ok).rest.shards in
     member_looked_up k e m.shards p.each_ok p.order c.group c.among c.of_its_shard c.inside c.at_its_seqno
 
 -- a block that is looked up has the key that was asked for
-pub lookup_key : (m : Model) → sound_model m ≡ true → (k : BlockIdShort) (e : Entry) → block_under m.shards k ≡ some e → key e.id ≡ k
+pub lookup_key : (m : Model) → sound_model m ≡ true → (k : BlockIdShort) (e : Entry) → block_under m.shards k ≡ Some e → key e.id ≡ k
 lookup_key m ok k e h = cached_key m ok k e (lookup_cached m k e h)
 
 -- both ways, for shard blocks and for masters
-pub cached_is_lookup : (m : Model) → sound_model m ≡ true → (k : BlockIdShort) (e : Entry) → (block_under m.shards k ≡ some e) ↔ Cached m k e
+pub cached_is_lookup : (m : Model) → sound_model m ≡ true → (k : BlockIdShort) (e : Entry) → (block_under m.shards k ≡ Some e) ↔ Cached m k e
 cached_is_lookup m ok k e = (lookup_cached m k e, cached_lookup m ok k e)
 
-pub master_is_at_seqno : (m : Model) → sound_model m ≡ true → (n : ℕ) (e : Entry) → (at_seqno n m.masters.entries ≡ some e) ↔ (CachedMaster m e × (e.id.seqno ≡ n))
+pub master_is_at_seqno : (m : Model) → sound_model m ≡ true → (n : ℕ) (e : Entry) → (at_seqno n m.masters.entries ≡ Some e) ↔ (CachedMaster m e × (e.id.seqno ≡ n))
 master_is_at_seqno m ok n e = (
   (λ f. (find_member (has_seqno n) m.masters.entries f, eqb-true e.id.seqno n (find_passes (has_seqno n) m.masters.entries f))),
-  λ r. subst (λ (k : ℕ). at_seqno k m.masters.entries ≡ some e) r.1
+  λ r. subst (λ (k : ℕ). at_seqno k m.masters.entries ≡ Some e) r.1
       (found_itself m.masters.entries (group_parts is_masterchain m.masters (parts m ok).rest.masters).order r.0),
 )

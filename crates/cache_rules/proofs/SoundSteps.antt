@@ -1,8 +1,11 @@
 -- An empty cache is sound, and a sound one is sound after any call.
 -- Assumes nothing.
+use Rattle.block_records.specs.declared.range.AppliedRange.{AppliedRange}
+use Rattle.block_records.specs.declared.questions.Refusal.{Refusal}
+use Rattle.std.specs.List.{fold}
+use Rattle.std.specs.Prelude.{Option, None, Some, map, cond, filter}
 use mathlib.Core.Bool.{not, true}
 use mathlib.Core.List.{List, [], ◌∷◌}
-use mathlib.Core.Option.{Option, none, some}
 use mathlib.Core.Path.{◌≡◌, refl, subst, sym}
 use Prim.Native.Nat.{◌+◌, suc, zero, ℕ}
 use borrow.Author.Tests.{eqb-true}
@@ -17,7 +20,6 @@ use Rattle.block_records.proofs.rules.ListLaws.{every_each, length_each, rising_
 use Rattle.block_records.proofs.rules.Tests.{and_intro, and_left, and_right, on, some_not_none}
 use Rattle.block_records.specs.rules.BlockId.{id_shard, is_masterchain, key, key_shard, listed_keys}
 use Rattle.block_records.specs.rules.Entry.{Entry, is_applied, with_kind}
-use Rattle.block_records.specs.rules.Lists.{each, fold, pick, select}
 use Rattle.block_records.specs.rules.Questions.{Question, first_no}
 use Rattle.blocks_group.proofs.rules.GroupLaws.{at_seqno_fits, group_bound, group_change, group_select}
 use Rattle.blocks_group.specs.rules.Group.{GroupModel, at_seqno, below_boundary, collated_above, has_seqno, refresh, with_boundary, without_collated_above}
@@ -30,32 +32,32 @@ use Rattle.cache_rules.proofs.StoreLaws.{candidate_fits, collated_rest, ids_sele
 use Rattle.cache_rules.specs.Calls.{Call, Request, Validation, collect, peek, pop, read_tail_ids, remove_next_collated, set_boundary, store_collated, store_received, store_validation, sync}
 use Rattle.cache_rules.specs.Effects.{after, answered, bound_one, collect_ids, collect_shard, do_collect, effect, extracted_model, masters_without, peek_entry, pop_entry, remove_ids, remove_one, step, sync_entry, tail_ids_entry, validate_entry, validate_kind, validated_kind}
 use Rattle.cache_rules.specs.Extraction.{Walk, extraction_of, first_walk, previous_cached, starting_ids, take_found, take_id, take_one, take_times}
-use Rattle.cache_rules.specs.Model.{Model, Range, ShardModel, block_under, empty_model, first_applied, moved_start, remove_block, shard_before}
+use Rattle.cache_rules.specs.Model.{Model, ShardModel, block_under, empty_model, first_applied, moved_start, remove_block, shard_before}
 use Rattle.cache_rules.specs.Refusals.{further, questions, sound_model, sound_shard_model}
 
 -- ===== validation =====
 
-validate_kind_rest : (v : Validation) (e : Entry) (o : Option BlockCacheEntryData) (m : Model) → Rest m → at_seqno e.id.seqno m.masters.entries ≡ some e → Rest (validate_kind v e o m).model
-validate_kind_rest v e none m h f = h
-validate_kind_rest v e (some k) m h f =
+validate_kind_rest : (v : Validation) (e : Entry) (o : Option BlockCacheEntryData) (m : Model) → Rest m → at_seqno e.id.seqno m.masters.entries ≡ Some e → Rest (validate_kind v e o m).model
+validate_kind_rest v e None m h f = h
+validate_kind_rest v e (Some k) m h f =
     record {
-      masters = group_change is_masterchain e.id.seqno (some (with_kind k e)) m.masters h.masters (at_seqno_fits is_masterchain e.id.seqno m.masters (some e) h.masters f) (rw f);
+      masters = group_change is_masterchain e.id.seqno (Some (with_kind k e)) m.masters h.masters (at_seqno_fits is_masterchain e.id.seqno m.masters (Some e) h.masters f) (rw f);
       ids = h.ids;
       shards = h.shards;
     }
 
-place_at : (n : ℕ) (es : List Entry) {e : Entry} → at_seqno n es ≡ some e → at_seqno e.id.seqno es ≡ some e
-place_at n es {e} f = subst (λ (k : ℕ). at_seqno k es ≡ some e) (sym (eqb-true e.id.seqno n (find_passes (has_seqno n) es f))) f
+place_at : (n : ℕ) (es : List Entry) {e : Entry} → at_seqno n es ≡ Some e → at_seqno e.id.seqno es ≡ Some e
+place_at n es {e} f = subst (λ (k : ℕ). at_seqno k es ≡ Some e) (sym (eqb-true e.id.seqno n (find_passes (has_seqno n) es f))) f
 
 validate_rest : (v : Validation) (n : ℕ) (o : Option Entry) (m : Model) → Rest m → at_seqno n m.masters.entries ≡ o → Rest (validate_entry v o m).model
-validate_rest v n none m h f = h
-validate_rest v n (some e) m h f = validate_kind_rest v e (validated_kind v e.kind) m h (place_at n m.masters.entries f)
+validate_rest v n None m h f = h
+validate_rest v n (Some e) m h f = validate_kind_rest v e (validated_kind v e.kind) m h (place_at n m.masters.entries f)
 
 -- ===== extraction =====
 
 found_shards : (mm : ℕ) (i : BlockId) (q : List BlockId) (w : Walk) (o : Option Entry) → ShardsOk w.shards → ShardsOk (take_found mm i q w o).shards
-found_shards mm i q w none h = h
-found_shards mm i q w (some e) h =
+found_shards mm i q w None h = h
+found_shards mm i q w (Some e) h =
     let l : ShardsOk (remove_block (key i) w.shards) =
     shards_change (id_shard i) _ w.shards (λ g k. group_select (of_shard (id_shard i)) (λ (x : Entry). not (has_seqno i.seqno x)) g k) h in
     on (eqb e.reference mm) (λ t. rw t (shards_change (id_shard i) (refresh i.seqno) (remove_block (key i) w.shards) (λ g k. k) l)) (λ t. rw t l)
@@ -72,7 +74,7 @@ extracted_shards : (M : Entry) (m : Model) → ShardsOk m.shards → ShardsOk (e
 extracted_shards M m h =
     let ids = starting_ids m.zerostate M in times_shards (length ids + previous_cached m.shards) M.id.seqno (first_walk ids m.shards) h
 
-extracted_rest : (M : Entry) (m : Model) (masters : GroupModel) (range : Option Range) → Rest m → sound_group_model is_masterchain masters ≡ true →
+extracted_rest : (M : Entry) (m : Model) (masters : GroupModel) (range : Option AppliedRange) → Rest m → sound_group_model is_masterchain masters ≡ true →
     Rest (extracted_model M (extraction_of M m) masters range m)
 extracted_rest M m masters range h ok =
     record { masters = ok; ids = ids_select (λ (i : BlockId). leb M.id.seqno i.seqno) m.ids h.ids; shards = extracted_shards M m h.shards }
@@ -81,21 +83,21 @@ masters_left : (M : Entry) (m : Model) → Rest m → sound_group_model is_maste
 masters_left M m h = group_select is_masterchain (λ (x : Entry). not (has_seqno M.id.seqno x)) m.masters h.masters
 
 pop_rest : (o : Option Entry) (m : Model) → Rest m → Rest (pop_entry o m).model
-pop_rest none m h = h
-pop_rest (some M) m h = extracted_rest M m (masters_without M m) (moved_start M.id.seqno m.range) h (masters_left M m h)
+pop_rest None m h = h
+pop_rest (Some M) m h = extracted_rest M m (masters_without M m) (moved_start M.id.seqno m.range) h (masters_left M m h)
 
 sync_rest : (o : Option Entry) (m : Model) → Rest m → Rest (sync_entry o m).model
-sync_rest none m h = h
-sync_rest (some M) m h =
-    extracted_rest M m (refresh M.id.seqno (masters_without M m)) (pick (is_applied M) (moved_start M.id.seqno m.range) m.range) h (masters_left M m h)
+sync_rest None m h = h
+sync_rest (Some M) m h =
+    extracted_rest M m (refresh M.id.seqno (masters_without M m)) (cond (is_applied M) (moved_start M.id.seqno m.range) m.range) h (masters_left M m h)
 
 peek_rest : (o : Option Entry) (m : Model) → Rest m → Rest (peek_entry o m).model
-peek_rest none m h = h
-peek_rest (some e) m h = h
+peek_rest None m h = h
+peek_rest (Some e) m h = h
 
 tails_rest : (o : Option Entry) (m : Model) → Rest m → Rest (tail_ids_entry o m).model
-tails_rest none m h = h
-tails_rest (some e) m h = h
+tails_rest None m h = h
+tails_rest (Some e) m h = h
 
 -- ===== boundary, collect, remove next collated =====
 
@@ -121,7 +123,7 @@ remove_ids_ok : (es : List Entry) (ids : List BlockId) → IdsOk ids → IdsOk (
 remove_ids_ok [] ids h = h
 remove_ids_ok (e ∷ es) ids h = remove_ids_ok es (remove_ids ids e) (ids_select _ ids h)
 
-collect_shards : (gs : List ShardModel) → ShardsOk gs → ShardsOk (each collect_shard gs)
+collect_shards : (gs : List ShardModel) → ShardsOk gs → ShardsOk (map collect_shard gs)
 collect_shards gs h =
     record {
       count = rw (length_each collect_shard gs) h.count;
@@ -136,7 +138,7 @@ collect_rest : (m : Model) → Rest m → Rest (do_collect m)
 collect_rest m h =
     record {
       masters = group_select is_masterchain (λ (e : Entry). not (below_boundary m.masters.boundary e)) m.masters h.masters;
-      ids = collect_ids_ok (select (below_boundary m.masters.boundary) m.masters.entries) m.ids h.ids;
+      ids = collect_ids_ok (filter (below_boundary m.masters.boundary) m.masters.entries) m.ids h.ids;
       shards = collect_shards m.shards h.shards;
     }
 
@@ -145,7 +147,7 @@ remove_one_rest m k h =
     on (is_masterchain (key_shard k))
     (λ t. rw t (record {
       masters = group_select is_masterchain (λ (e : Entry). not (collated_above k.seqno e)) m.masters h.masters;
-      ids = remove_ids_ok (select (collated_above k.seqno) m.masters.entries) m.ids h.ids;
+      ids = remove_ids_ok (filter (collated_above k.seqno) m.masters.entries) m.ids h.ids;
       shards = h.shards;
     }))
     (λ t. rw t (record {
@@ -164,10 +166,10 @@ abbrev pub Yes : List Question → Type 0
 Yes [] = Unit {0}
 Yes (q ∷ qs) = (q.yes? ≡ true) × Yes qs
 
-pub all_yes : (qs : List Question) → first_no qs ≡ none → Yes qs
+pub all_yes : (qs : List Question) → first_no qs ≡ None → Yes qs
 all_yes [] h = tt
 all_yes (q ∷ qs) h =
-    on q.yes? (λ t. (t, all_yes qs (rw t at h))) (λ t. let z : some q.number ≡ none = rw t at h in some_not_none refl z)
+    on q.yes? (λ t. (t, all_yes qs (rw t at h))) (λ t. let z : Some q.refusal ≡ None = rw t at h in some_not_none refl z)
 
 effect_rest : (m : Model) (places : ℕ) (r : Request) → Rest m → Yes (further m places r) → Rest (effect m r).model
 unfolding effect further
@@ -189,11 +191,11 @@ pub empty_sound : (z : ℕ) → sound_model (empty_model z) ≡ true
 unfolding sound_model
 empty_sound z = refl
 
-answered_parts : (m : Model) (call : Call) (o : Option ℕ) → first_no (questions m call) ≡ o → Parts m → Parts (answered o m call).model
-answered_parts m call none e h =
+answered_parts : (m : Model) (call : Call) (o : Option Refusal) → first_no (questions m call) ≡ o → Parts m → Parts (answered o m call).model
+answered_parts m call None e h =
     let y = all_yes (questions m call) e in
     record { range = effect_range m call.request h.range; rest = effect_rest m (length call.lent) call.request h.rest y.1 }
-answered_parts m call (some n) e h = h
+answered_parts m call (Some n) e h = h
 
 pub step_sound : (m : Model) (call : Call) → sound_model m ≡ true → sound_model (step m call).model ≡ true
 unfolding step

@@ -1,8 +1,9 @@
 -- The two stores leave a sound cache sound.
 -- Assumes nothing.
+use Rattle.std.specs.List.{list_all, find}
+use Rattle.std.specs.Prelude.{Option, None, Some, cond, is_some, filter}
 use mathlib.Core.Bool.{Bool, ◌&&◌, ◌||◌, false, not, true}
 use mathlib.Core.List.{List, [], ◌∷◌}
-use mathlib.Core.Option.{Option, none, some}
 use mathlib.Core.Path.{◌∙◌, ◌≡◌, refl, subst, sym}
 use Prim.Native.Nat.{◌≤◌, suc, zero, ℕ}
 use native.Mathlib.Nat.{le_refl}
@@ -13,17 +14,17 @@ use lib.ListN.{length, take}
 use Rattle.block_records.specs.declared.block_id.BlockId.{BlockId}
 use Rattle.block_records.specs.declared.block_id.ShardIdent.{ShardIdent}
 use Rattle.block_records.specs.declared.store_records.BlockCandidate.{BlockCandidate}
-use Rattle.block_records.specs.declared.store_records.PrevIds.{PrevIds}
+use Rattle.block_records.specs.layout.Listed.{PrevIds}
 use Rattle.block_records.specs.declared.store_records.ReceivedBlock.{ReceivedBlock}
 use Rattle.block_records.specs.declared.top_block.TopBlock.{TopBlock}
-use Rattle.block_records.specs.declared.top_block.TopBlocks.{TopBlocks}
+use Rattle.block_records.specs.layout.Listed.{TopBlocks}
 use Rattle.block_records.proofs.rules.BlockIdLaws.{same_shard_refl}
 use Rattle.block_records.proofs.rules.Finds.{find_member, find_passes}
 use Rattle.block_records.proofs.rules.ListLaws.{by_number, every_put, every_select, length_put, length_put_same, length_select, rising_put, rising_select}
 use Rattle.block_records.proofs.rules.Tests.{and_intro, and_left, and_right, clash, not_true, on}
 use Rattle.block_records.specs.rules.BlockId.{id_shard, is_masterchain, listed_prev_ids, listed_tops, same_id}
 use Rattle.block_records.specs.rules.Entry.{Entry, fresh_collated, fresh_received}
-use Rattle.block_records.specs.rules.Lists.{every, find, pick, present, put, select}
+use Rattle.block_records.specs.rules.Lists.{put}
 use Rattle.block_records.specs.rules.Questions.{counts_fit, entry_fits, id_fits, links_fit, seqno_fits, seqnos_fit, top_fits, top_outside}
 use Rattle.blocks_group.proofs.rules.GroupLaws.{FitsAt, at_seqno_fits, collated_fits, group_change, received_fits}
 use Rattle.blocks_group.specs.rules.Group.{Stored, at_seqno, changed_entries, store_collated_at, store_received_at, with_entries}
@@ -39,10 +40,10 @@ use Rattle.cache_rules.specs.Refusals.{has_id_room, has_room, id_masterchain, in
 abbrev id_seqno : BlockId → ℕ
 id_seqno i = i.seqno
 
-pub ids_select : (q : BlockId → Bool) (ids : List BlockId) → IdsOk ids → IdsOk (select q ids)
+pub ids_select : (q : BlockId → Bool) (ids : List BlockId) → IdsOk ids → IdsOk (filter q ids)
 ids_select q ids h =
     record {
-      count = le-leb (length (select q ids)) 32 (omega (arith, length_select q ids, leb-true (length ids) 32 h.count));
+      count = le-leb (length (filter q ids)) 32 (omega (arith, length_select q ids, leb-true (length ids) 32 h.count));
       order = rising_select id_before q ids h.order;
       side = every_select id_masterchain q ids h.side;
     }
@@ -51,9 +52,9 @@ abbrev at_id : ℕ → BlockId → Bool
 at_id n j = eqb j.seqno n
 
 pub ids_length : (i : BlockId) (o : Option BlockId) (ids : List BlockId) → IdsOk ids → find (at_id i.seqno) ids ≡ o →
-    present o || ltb (length ids) 32 ≡ true → length (put id_before i ids) ≤ 32
-ids_length i none ids h f room = omega (arith, length_put id_before i ids, ltb-true (length ids) 32 room)
-ids_length i (some x) ids h f room =
+    is_some o || ltb (length ids) 32 ≡ true → length (put id_before i ids) ≤ 32
+ids_length i None ids h f room = omega (arith, length_put id_before i ids, ltb-true (length ids) 32 room)
+ids_length i (Some x) ids h f room =
     let t = eqb-true x.seqno i.seqno (find_passes (at_id i.seqno) ids f) in
     omega (
       arith,
@@ -62,7 +63,7 @@ ids_length i (some x) ids h f room =
           (le-ltb i.seqno x.seqno (omega arith)) (le-ltb x.seqno i.seqno (omega arith)),
     )
 
-ids_put : (i : BlockId) (ids : List BlockId) → IdsOk ids → id_masterchain i ≡ true → present (find (at_id i.seqno) ids) || ltb (length ids) 32 ≡ true → IdsOk (put id_before i ids)
+ids_put : (i : BlockId) (ids : List BlockId) → IdsOk ids → id_masterchain i ≡ true → is_some (find (at_id i.seqno) ids) || ltb (length ids) 32 ≡ true → IdsOk (put id_before i ids)
 ids_put i ids h side room =
     record {
       count = le-leb (length (put id_before i ids)) 32 (ids_length i (find (at_id i.seqno) ids) ids h refl room);
@@ -80,40 +81,40 @@ or_split : (a b c : Bool) → a || (b && c) ≡ true → a || b ≡ true
 or_split true b c h = refl
 or_split false b c h = and_left b c h
 
-present_shard : (n : ℕ) (o : Option ShardModel) → present (at_seqno n (group_in o).entries) ≡ true → present o ≡ true
-present_shard n none h = h
-present_shard n (some x) h = refl
+present_shard : (n : ℕ) (o : Option ShardModel) → is_some (at_seqno n (group_in o).entries) ≡ true → is_some o ≡ true
+present_shard n None h = h
+present_shard n (Some x) h = refl
 
 room_master : (i : BlockId) (m : Model) → is_masterchain (id_shard i) ≡ true → has_room i m ≡ true →
-    present (at_seqno i.seqno m.masters.entries) || ltb (length m.masters.entries) 16 ≡ true
-room_master i m t h = or_split (present (at_seqno i.seqno m.masters.entries)) (ltb (length m.masters.entries) 16) true (rw t at h)
+    is_some (at_seqno i.seqno m.masters.entries) || ltb (length m.masters.entries) 16 ≡ true
+room_master i m t h = or_split (is_some (at_seqno i.seqno m.masters.entries)) (ltb (length m.masters.entries) 16) true (rw t at h)
 
 module _ (i : BlockId) (m : Model) (t : is_masterchain (id_shard i) ≡ false) (h : has_room i m ≡ true) where
   abbrev its_entries : List Entry
   its_entries = (group_of (id_shard i) m.shards).entries
 
   abbrev shard_room : Bool
-  shard_room = present (find_shard (id_shard i) m.shards) || ltb (length m.shards) 8
+  shard_room = is_some (find_shard (id_shard i) m.shards) || ltb (length m.shards) 8
 
-  room_group : present (at_seqno i.seqno its_entries) || ltb (length its_entries) 16 ≡ true
-  room_group = or_split (present (at_seqno i.seqno its_entries)) (ltb (length its_entries) 16) shard_room (rw t at h)
+  room_group : is_some (at_seqno i.seqno its_entries) || ltb (length its_entries) 16 ≡ true
+  room_group = or_split (is_some (at_seqno i.seqno its_entries)) (ltb (length its_entries) 16) shard_room (rw t at h)
 
   room_shard : shard_room ≡ true
   room_shard =
-      on (present (at_seqno i.seqno its_entries))
+      on (is_some (at_seqno i.seqno its_entries))
       (λ u. rw (present_shard i.seqno (find_shard (id_shard i) m.shards) u))
-      (λ u. and_right (ltb (length its_entries) 16) shard_room (or_false (present (at_seqno i.seqno its_entries)) _ (rw t at h) u))
+      (λ u. and_right (ltb (length its_entries) 16) shard_room (or_false (is_some (at_seqno i.seqno its_entries)) _ (rw t at h) u))
 
 -- a collated store inserts or updates exactly where it has no mismatch
 pub inserts_is : (c : BlockCandidate) (o : Option Entry) → not (inserts_or_updates c o) ≡ (store_collated_at c o).mismatch
-inserts_is c none = refl
-inserts_is c (some e) = on (same_id e.id c.block_id) (λ t. rw t) (λ t. rw t)
+inserts_is c None = refl
+inserts_is c (Some e) = on (same_id e.id c.block_id) (λ t. rw t) (λ t. rw t)
 
 both_yes : (a b : Bool) → a ≡ true → not b ≡ false → not (a && b) ≡ false
 both_yes a b t u = rw t u
 
 id_room : (c : BlockCandidate) (m : Model) → has_id_room c m ≡ true → id_masterchain c.block_id ≡ true → (store_collated_at c (entry_for c.block_id m)).mismatch ≡ false →
-    present (find (at_id c.block_id.seqno) m.ids) || ltb (length m.ids) 32 ≡ true
+    is_some (find (at_id c.block_id.seqno) m.ids) || ltb (length m.ids) 32 ≡ true
 id_room c m h t u =
     let o = entry_for c.block_id m in
     or_false (not (id_masterchain c.block_id && inserts_or_updates c o)) _ h (both_yes (id_masterchain c.block_id) (inserts_or_updates c o) t (inserts_is c o ∙ u))
@@ -133,12 +134,12 @@ shard_stored m i change h t f rm =
 
 change_rest : (m : Model) (i : BlockId) (o : Option Entry) → Rest m → has_room i m ≡ true → (id_masterchain i ≡ true → FitsAt is_masterchain i.seqno o) →
     (id_masterchain i ≡ false → FitsAt (of_shard (id_shard i)) i.seqno o) → Rest (store_change (id_shard i) o m)
-change_rest m i none h rm f g = h
-change_rest m i (some e) h rm f g =
+change_rest m i None h rm f g = h
+change_rest m i (Some e) h rm f g =
     on (is_masterchain (id_shard i))
     (λ t. rw t
     (record {
-      masters = group_change is_masterchain i.seqno (some e) m.masters h.masters (f t) (room_master i m t rm);
+      masters = group_change is_masterchain i.seqno (Some e) m.masters h.masters (f t) (room_master i m t rm);
       ids = h.ids;
       shards = h.shards;
     }))
@@ -146,16 +147,16 @@ change_rest m i (some e) h rm f g =
     (record {
       masters = h.masters;
       ids = h.ids;
-      shards = shards_set (id_shard i) _ m.shards h.shards t (shard_stored m i (some e) h t (g t) rm) (room_shard i m t rm);
+      shards = shards_set (id_shard i) _ m.shards h.shards t (shard_stored m i (Some e) h t (g t) rm) (room_shard i m t rm);
     }))
 
 -- a store does not touch the ids
 change_ids : (s : ShardIdent) (o : Option Entry) (m : Model) → (store_change s o m).ids ≡ m.ids
-change_ids s none m = refl
-change_ids s (some e) m = on (is_masterchain s) (λ t. rw t) (λ t. rw t)
+change_ids s None m = refl
+change_ids s (Some e) m = on (is_masterchain s) (λ t. rw t) (λ t. rw t)
 
 data_rest : (i : BlockId) (mismatch : Bool) (m : Model) → Rest m →
-    (id_masterchain i ≡ true → mismatch ≡ false → present (find (at_id i.seqno) m.ids) || ltb (length m.ids) 32 ≡ true) → Rest (collated_data i mismatch m)
+    (id_masterchain i ≡ true → mismatch ≡ false → is_some (find (at_id i.seqno) m.ids) || ltb (length m.ids) 32 ≡ true) → Rest (collated_data i mismatch m)
 data_rest i mismatch m h room =
     on (is_masterchain (id_shard i) && not mismatch)
     (λ t. let a = and_left (is_masterchain (id_shard i)) (not mismatch) t in
@@ -171,11 +172,11 @@ collated_rest m c h fit rm idr =
     let stored = change_rest m i s.change h rm (λ t. collated_fits is_masterchain c (entry_for c.block_id m) t fit (place_master c.block_id m h t))
     (λ t. collated_fits (of_shard (id_shard i)) c (entry_for c.block_id m) (same_shard_refl (id_shard i)) fit (place_shard i m h t)) in
     data_rest i s.mismatch (store_change (id_shard i) s.change m) stored
-    (λ t u. subst (λ (ids : List BlockId). present (find (at_id i.seqno) ids) || ltb (length ids) 32 ≡ true) (sym (change_ids (id_shard i) s.change m)) (id_room c m idr t u))
+    (λ t u. subst (λ (ids : List BlockId). is_some (find (at_id i.seqno) ids) || ltb (length ids) 32 ≡ true) (sym (change_ids (id_shard i) s.change m)) (id_room c m idr t u))
 
 -- ===== received store =====
 
-forgets : (b : Bool) (s : ℕ) (ids : List BlockId) → IdsOk ids → IdsOk (pick b (ids_below s ids) ids)
+forgets : (b : Bool) (s : ℕ) (ids : List BlockId) → IdsOk ids → IdsOk (cond b (ids_below s ids) ids)
 forgets true s ids h = ids_select _ ids h
 forgets false s ids h = h
 
@@ -225,7 +226,7 @@ counts_listed i previous tops h =
     let a : leb previous.count 2 ≡ true = search and_left in
     let b : leb tops.count 8 ≡ true = search (and_left, and_right) in
     let c : is_masterchain (id_shard i) || eqb tops.count 0 ≡ true = search (and_left, and_right) in
-    and_intro (le-leb (length (listed_prev_ids previous)) 2 (omega (arith, take_length previous.count previous.ids, leb-true previous.count 2 a)))
+    and_intro (le-leb (length (listed_prev_ids previous)) 2 (omega (arith, take_length previous.count previous.items, leb-true previous.count 2 a)))
     (and_intro (le-leb (length (listed_tops tops)) 8 (omega (arith, take_length tops.count tops.items, leb-true tops.count 8 b)))
     (on (is_masterchain (id_shard i)) (λ t. rw t)
     (λ t. let z = eqb-true tops.count 0 (or_false (is_masterchain (id_shard i)) (eqb tops.count 0) c t) in
@@ -239,14 +240,14 @@ candidate_fits c x y z = and_intro x (and_intro (counts_listed c.block_id c.prev
 -- previous ids that are not stored do no harm
 entry_drop : (b : Bool) (i : BlockId) (ref : ℕ) (ps : List BlockId) (ts : List TopBlock) →
     seqnos_fit i ref ps ts ≡ true → counts_fit i (length ps) (length ts) ≡ true → links_fit i ps ts ≡ true →
-    seqnos_fit i ref (pick b [] ps) ts && (counts_fit i (length (pick b [] ps)) (length ts) && links_fit i (pick b [] ps) ts) ≡ true
+    seqnos_fit i ref (cond b [] ps) ts && (counts_fit i (length (cond b [] ps)) (length ts) && links_fit i (cond b [] ps) ts) ≡ true
 entry_drop false i ref ps ts x y z = and_intro x (and_intro y z)
 entry_drop true i ref ps ts x y z =
     let a : id_fits i ≡ true = search and_left in
     let b : seqno_fits ref ≡ true = search (and_left, and_right) in
-    let c : every top_fits ts ≡ true = search (and_left, and_right) in
+    let c : list_all top_fits ts ≡ true = search (and_left, and_right) in
     let d : leb (length ts) 8 && (is_masterchain (id_shard i) || eqb (length ts) 0) ≡ true = search (and_left, and_right) in
-    let e : every top_outside ts ≡ true = search (and_left, and_right) in
+    let e : list_all top_outside ts ≡ true = search (and_left, and_right) in
     and_intro (and_intro a (and_intro b (and_intro refl c))) (and_intro (and_intro refl d) (and_intro refl e))
 
 pub receipt_fits : (z : ℕ) (r : ReceivedBlock) → seqnos_fit r.block_id r.ref_block_id.seqno (listed_prev_ids r.prev_ids) (listed_tops r.top_blocks) ≡ true →

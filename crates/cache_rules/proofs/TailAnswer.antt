@@ -1,10 +1,11 @@
 -- Tail ids on a sound cache: the computed walk is the literal one, each queued id once gives the same answer, and there are at most 17 rows.
 -- Assumes nothing.
+use Rattle.std.specs.List.{list_all, flat_map, fold}
+use Rattle.std.specs.Prelude.{Option, None, Some, map}
 use mathlib.Core.Bool.{Bool, ◌||◌, false, true}
 use mathlib.Core.List.Memᴰ
 use mathlib.Core.List.{List, Memᴰ, [], ◌++◌, ◌∷◌}
 use mathlib.Core.Logic.{◌⊎◌, inl, inr}
-use mathlib.Core.Option.{Option, none, some}
 use mathlib.Core.Path.{◌∙◌, ◌≡◌, ap, ap₂, refl, subst, sym}
 use Prim.Native.Nat.{◌+◌, ◌<◌, ◌≤◌, suc, ℕ}
 use native.Mathlib.Omega.{arith}
@@ -19,7 +20,7 @@ use Rattle.block_records.proofs.rules.ListLaws.{every_member, length_each}
 use Rattle.block_records.proofs.rules.Tests.{and_left, and_right, clash, on}
 use Rattle.block_records.specs.rules.BlockId.{id_shard, key}
 use Rattle.block_records.specs.rules.Entry.{Entry}
-use Rattle.block_records.specs.rules.Lists.{each, every, flat_map, fold, rising}
+use Rattle.block_records.specs.rules.Lists.{rising}
 use Rattle.block_records.specs.rules.Questions.{entry_fits, previous_fits}
 use Rattle.blocks_group.proofs.rules.GroupLaws.{tops_eight}
 use Rattle.cache_rules.proofs.SoundLaws.{cached_fits, looked_up, lookup_cached, parts}
@@ -39,12 +40,12 @@ use Rattle.cache_rules.specs.TailIdsOnce.{OnceWalk, once_begin, once_times, tail
 -- ===== the ids that a cache can queue =====
 
 -- a queued id is a previous id of the block found there
-found_queued : (m : ℕ) (as_top : Bool) (o : Option Entry) {p : BlockId} → Memᴰ p (found_queues m as_top o) → (e : Entry) × (o ≡ some e) × Memᴰ p e.previous
-found_queued m as_top none u = absurd (Memᴰ.not-nil u)
-found_queued m as_top (some e) u = on (as_top || eqb e.reference m) (λ t. (e, refl, rw t at u)) (λ t. absurd (Memᴰ.not-nil (rw t at u)))
+found_queued : (m : ℕ) (as_top : Bool) (o : Option Entry) {p : BlockId} → Memᴰ p (found_queues m as_top o) → (e : Entry) × (o ≡ Some e) × Memᴰ p e.previous
+found_queued m as_top None u = absurd (Memᴰ.not-nil u)
+found_queued m as_top (Some e) u = on (as_top || eqb e.reference m) (λ t. (e, refl, rw t at u)) (λ t. absurd (Memᴰ.not-nil (rw t at u)))
 
 queued_from : (gs : List ShardModel) (m : ℕ) (as_top : Bool) (i : BlockId) {p : BlockId} → Memᴰ p (queues gs m as_top i) →
-    (e : Entry) × (block_under gs (key i) ≡ some e) × Memᴰ p e.previous
+    (e : Entry) × (block_under gs (key i) ≡ Some e) × Memᴰ p e.previous
 queued_from gs m as_top i u =
     on (eqb i.seqno 0) (λ t. absurd (Memᴰ.not-nil (rw t at u))) (λ t. found_queued m as_top (block_under gs (key i)) (rw t at u))
 
@@ -69,7 +70,7 @@ length_all [] = refl
 length_all (g ∷ gs) =
     length-append (shard_previous g) (flat_map shard_previous gs) ∙ ap₂ (λ (a b : ℕ). a + b) (length_entries g.group.entries) (length_all gs)
 
-previous_among : (gs : List ShardModel) (k : BlockIdShort) (e : Entry) {p : BlockId} → block_under gs k ≡ some e → Memᴰ p e.previous → Memᴰ p (all_previous gs)
+previous_among : (gs : List ShardModel) (k : BlockIdShort) (e : Entry) {p : BlockId} → block_under gs k ≡ Some e → Memᴰ p e.previous → Memᴰ p (all_previous gs)
 unfolding all_previous shard_previous entry_previous
 previous_among gs k e {p} f u =
     let r = looked_up k e gs f in flat_map_member shard_previous gs r.1 (flat_map_member entry_previous r.0.group.entries r.3 u)
@@ -95,7 +96,7 @@ module _ (m : Model) (ok : sound_model m ≡ true) (M : Entry) where
       let e = r.0 in
       let c = lookup_cached m (key i) e r.1 in
       let fit : entry_fits e ≡ true = cached_fits m ok (key i) e c in
-      let ps : every (previous_fits e.id) e.previous ≡ true = search (and_left, and_right) in
+      let ps : list_all (previous_fits e.id) e.previous ≡ true = search (and_left, and_right) in
       let q : previous_fits e.id p ≡ true = every_member (previous_fits e.id) e.previous ps r.2 in
       let l : ltb p.seqno e.id.seqno ≡ true = search and_left in
       omega (arith, ltb-true p.seqno e.id.seqno l, c.at_its_seqno)
@@ -122,11 +123,11 @@ module _ (m : Model) (ok : sound_model m ≡ true) (M : Entry) where
   done_fits = omega (arith, known_fits gs mm ids₁ (all_previous gs) ids_in (queue_in gs mm false) at_end.done at_end.queue inv, length_all gs)
 
   -- the literal walk's rows are what `levels` computes
-  pub tails_fifo : Fifo gs mm (each (waits true) (top_ids M)) (levels (suc (highest (top_ids M))) gs mm true (top_ids M))
+  pub tails_fifo : Fifo gs mm (map (waits true) (top_ids M)) (levels (suc (highest (top_ids M))) gs mm true (top_ids M))
   tails_fifo = levels_fifo gs mm falls (suc (highest (top_ids M))) true (top_ids M) (highest_below (top_ids M))
 
   -- and those of the literal walk, whichever way it is shown
-  pub tails_literal : (rows : List TailRow) → Fifo gs mm (each (waits true) (top_ids M)) rows → fold hold (first_row M ∷ []) rows ≡ tails_of gs M
+  pub tails_literal : (rows : List TailRow) → Fifo gs mm (map (waits true) (top_ids M)) rows → fold hold (first_row M ∷ []) rows ≡ tails_of gs M
   tails_literal rows f = ap (fold hold (first_row M ∷ [])) (fifo_unique gs mm f tails_fifo)
 
   abbrev deep_ids : List BlockId
@@ -147,7 +148,7 @@ module _ (m : Model) (ok : sound_model m ≡ true) (M : Entry) where
 
   -- the rows' shards: M's, the tops', and those of the groups
   abbrev all_shards : List ShardIdent
-  all_shards = id_shard M.id ∷ (each id_shard (top_ids M) ++ each model_shard gs)
+  all_shards = id_shard M.id ∷ (map id_shard (top_ids M) ++ map model_shard gs)
 
   gives_within : (t : TailRow) → Memᴰ t (flat_map (gives gs mm true) (top_ids M) ++ flat_map (gives gs mm false) deep_ids) → Memᴰ t.shard all_shards
   unfolding model_shard
@@ -155,14 +156,14 @@ module _ (m : Model) (ok : sound_model m ≡ true) (M : Entry) where
     where
       of_top : (i : BlockId) → Memᴰ i (top_ids M) → t.shard ≡ id_shard i → Memᴰ t.shard all_shards
       of_top i v e =
-          Memᴰ.tail (Memᴰ.append_left (each model_shard gs) (subst (λ (s : ShardIdent). Memᴰ s (each id_shard (top_ids M))) (sym e) (each_member id_shard (top_ids M) v)))
+          Memᴰ.tail (Memᴰ.append_left (map model_shard gs) (subst (λ (s : ShardIdent). Memᴰ s (map id_shard (top_ids M))) (sym e) (each_member id_shard (top_ids M) v)))
 
-      of_group : (i : BlockId) → t.shard ≡ id_shard i → (e : Entry) → block_under gs (key i) ≡ some e → Memᴰ t.shard all_shards
+      of_group : (i : BlockId) → t.shard ≡ id_shard i → (e : Entry) → block_under gs (key i) ≡ Some e → Memᴰ t.shard all_shards
       of_group i s e f =
           let r = looked_up (key i) e gs f in
-          Memᴰ.tail (Memᴰ.append_right (each id_shard (top_ids M)) (subst (λ (z : ShardIdent). Memᴰ z (each model_shard gs)) (r.2 ∙ sym s) (each_member model_shard gs r.1)))
+          Memᴰ.tail (Memᴰ.append_right (map id_shard (top_ids M)) (subst (λ (z : ShardIdent). Memᴰ z (map model_shard gs)) (r.2 ∙ sym s) (each_member model_shard gs r.1)))
 
-      deeper : (i : BlockId) → (t.shard ≡ id_shard i) × ((false ≡ true) ⊎ ((e : Entry) × (block_under gs (key i) ≡ some e))) → Memᴰ t.shard all_shards
+      deeper : (i : BlockId) → (t.shard ≡ id_shard i) × ((false ≡ true) ⊎ ((e : Entry) × (block_under gs (key i) ≡ Some e))) → Memᴰ t.shard all_shards
       deeper i (s, inl h) = clash h refl
       deeper i (s, inr e) = of_group i s e.0 e.1
 
@@ -180,14 +181,14 @@ module _ (m : Model) (ok : sound_model m ≡ true) (M : Entry) where
       (λ t u. gives_within t (subst (λ (l : List TailRow). Memᴰ t l) split u))
       (λ t u. first_in t (Memᴰ.cases_cons u)) in
       let rise : rising tail_before (tails_of gs M) ≡ true = fold_rising (levels (suc (highest (top_ids M))) gs mm true (top_ids M)) (first_row M ∷ []) refl in
-      let few : length (each row_shard (tails_of gs M)) ≤ length all_shards =
-      distinct_fits (each row_shard (tails_of gs M)) all_shards (rows_distinct (tails_of gs M) rise)
+      let few : length (map row_shard (tails_of gs M)) ≤ length all_shards =
+      distinct_fits (map row_shard (tails_of gs M)) all_shards (rows_distinct (tails_of gs M) rise)
       (λ s u. let r = member_each row_shard (tails_of gs M) u in subst (λ (z : ShardIdent). Memᴰ z all_shards) (sym r.2) (within r.0 r.1)) in
       omega (
         arith,
         few,
         length_each row_shard (tails_of gs M),
-        length-append (each id_shard (top_ids M)) (each model_shard gs),
+        length-append (map id_shard (top_ids M)) (map model_shard gs),
         length_each id_shard (top_ids M),
         length_each top_id M.tops,
         length_each model_shard gs,

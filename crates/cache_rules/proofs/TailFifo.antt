@@ -1,11 +1,11 @@
 -- The walk as a queue gives one answer only.
 -- Assumes nothing.
+use Rattle.std.specs.Prelude.{map}
 use mathlib.Core.Bool.{false}
 use mathlib.Core.List.{List, [], ◌++◌, ◌∷◌}
 use mathlib.Core.Path.{◌∙◌, ◌≡◌, ap, refl, subst₂, sym}
 use Prim.Native.Nat.{ℕ}
 use native.Mathlib.Omega.{arith}
-use Rattle.block_records.specs.rules.Lists.{each}
 use Rattle.cache_rules.specs.Calls.{TailRow}
 use Rattle.cache_rules.specs.Model.{ShardModel}
 use Rattle.cache_rules.specs.TailIds.{Fifo, Waiting, fifo_end, fifo_next, gives, queues, waits}
@@ -25,7 +25,7 @@ module _ (gs : List ShardModel) (m : ℕ) where
 
   abbrev Next : Waiting → List Waiting → List TailRow → Type 0
   Next w rest rows =
-      (later : List TailRow) × Fifo gs m (rest ++ each (waits false) (queues gs m w.as_top w.id)) later × (rows ≡ gives gs m w.as_top w.id ++ later)
+      (later : List TailRow) × Fifo gs m (rest ++ map (waits false) (queues gs m w.as_top w.id)) later × (rows ≡ gives gs m w.as_top w.id ++ later)
 
   fifo_first : {q : List Waiting} {rows : List TailRow} (w : Waiting) (rest : List Waiting) → Fifo gs m q rows → q ≡ w ∷ rest → Next w rest rows
   fifo_first w rest fifo_end e = no_waiting w rest (sym e)

@@ -1,5 +1,7 @@
 -- The tail ids' walk by levels is the walk as a queue; and it takes, below the tops, exactly the ids that were queued.
 -- Assumes nothing.
+use Rattle.std.specs.List.{flat_map}
+use Rattle.std.specs.Prelude.{map}
 use mathlib.Core.Bool.{Bool, false, true}
 use mathlib.Core.List.Memᴰ
 use mathlib.Core.List.{List, Memᴰ, [], ◌++◌, ◌∷◌, append_assoc, append-nil}
@@ -9,7 +11,6 @@ use Prim.Native.Nat.{◌<◌, max, suc, zero, ℕ}
 use native.Mathlib.Omega.{arith}
 use Rattle.block_records.specs.declared.block_id.BlockId.{BlockId}
 use Rattle.block_records.proofs.arrays.ArrayLaws.{each_append}
-use Rattle.block_records.specs.rules.Lists.{each, flat_map}
 use Rattle.cache_rules.specs.Calls.{TailRow}
 use Rattle.cache_rules.specs.Model.{ShardModel}
 use Rattle.cache_rules.specs.TailIds.{Fifo, Waiting, fifo_end, fifo_next, gives, highest, levels, queues, waits}
@@ -53,26 +54,26 @@ module _ (gs : List ShardModel) (m : ℕ)
   next_below d as_top ids b p u = let r = flat_map_from (queues gs m as_top) ids u in omega (arith, b r.0 r.1, falls as_top r.0 p r.2)
 
   -- one level, with what it queues behind what waits already
-  sweep : (as_top : Bool) (ids more : List BlockId) (rows : List TailRow) → Fifo gs m (each (waits false) (more ++ flat_map (queues gs m as_top) ids)) rows →
-      Fifo gs m (each (waits as_top) ids ++ each (waits false) more) (flat_map (gives gs m as_top) ids ++ rows)
-  sweep as_top [] more rows f = subst (λ (q : List BlockId). Fifo gs m (each (waits false) q) rows) (append-nil more) f
+  sweep : (as_top : Bool) (ids more : List BlockId) (rows : List TailRow) → Fifo gs m (map (waits false) (more ++ flat_map (queues gs m as_top) ids)) rows →
+      Fifo gs m (map (waits as_top) ids ++ map (waits false) more) (flat_map (gives gs m as_top) ids ++ rows)
+  sweep as_top [] more rows f = subst (λ (q : List BlockId). Fifo gs m (map (waits false) q) rows) (append-nil more) f
   sweep as_top (i ∷ ids) more rows f =
       let q = queues gs m as_top i in
-      let f' : Fifo gs m (each (waits false) ((more ++ q) ++ flat_map (queues gs m as_top) ids)) rows =
-      subst (λ (l : List BlockId). Fifo gs m (each (waits false) l) rows) (sym (append_assoc more q (flat_map (queues gs m as_top) ids))) f in
+      let f' : Fifo gs m (map (waits false) ((more ++ q) ++ flat_map (queues gs m as_top) ids)) rows =
+      subst (λ (l : List BlockId). Fifo gs m (map (waits false) l) rows) (sym (append_assoc more q (flat_map (queues gs m as_top) ids))) f in
       let g = sweep as_top ids (more ++ q) rows f' in
-      let e : each (waits as_top) ids ++ each (waits false) (more ++ q) ≡ (each (waits as_top) ids ++ each (waits false) more) ++ each (waits false) q =
-      rw (each_append (waits false) more q) (sym (append_assoc (each (waits as_top) ids) (each (waits false) more) (each (waits false) q))) in
-      subst (λ (r : List TailRow). Fifo gs m (waits as_top i ∷ (each (waits as_top) ids ++ each (waits false) more)) r) (sym (append_assoc (gives gs m as_top i) (flat_map (gives gs m as_top) ids) rows))
-      (fifo_next i as_top (each (waits as_top) ids ++ each (waits false) more) (flat_map (gives gs m as_top) ids ++ rows)
+      let e : map (waits as_top) ids ++ map (waits false) (more ++ q) ≡ (map (waits as_top) ids ++ map (waits false) more) ++ map (waits false) q =
+      rw (each_append (waits false) more q) (sym (append_assoc (map (waits as_top) ids) (map (waits false) more) (map (waits false) q))) in
+      subst (λ (r : List TailRow). Fifo gs m (waits as_top i ∷ (map (waits as_top) ids ++ map (waits false) more)) r) (sym (append_assoc (gives gs m as_top i) (flat_map (gives gs m as_top) ids) rows))
+      (fifo_next i as_top (map (waits as_top) ids ++ map (waits false) more) (flat_map (gives gs m as_top) ids ++ rows)
       (subst (λ (l : List Waiting). Fifo gs m l (flat_map (gives gs m as_top) ids ++ rows)) e g))
 
-  pub levels_fifo : (d : ℕ) (as_top : Bool) (ids : List BlockId) → Below d ids → Fifo gs m (each (waits as_top) ids) (levels d gs m as_top ids)
+  pub levels_fifo : (d : ℕ) (as_top : Bool) (ids : List BlockId) → Below d ids → Fifo gs m (map (waits as_top) ids) (levels d gs m as_top ids)
   levels_fifo zero as_top [] b = fifo_end
   levels_fifo zero as_top (i ∷ ids) b = absurd (omega (arith, b i (Memᴰ.head refl)))
   levels_fifo (suc d) as_top [] b = fifo_end
   levels_fifo (suc d) as_top (i ∷ ids) b =
-      subst (λ (l : List Waiting). Fifo gs m l (levels (suc d) gs m as_top (i ∷ ids))) (append-nil (each (waits as_top) (i ∷ ids)))
+      subst (λ (l : List Waiting). Fifo gs m l (levels (suc d) gs m as_top (i ∷ ids))) (append-nil (map (waits as_top) (i ∷ ids)))
       (sweep as_top (i ∷ ids) [] (levels d gs m false (flat_map (queues gs m as_top) (i ∷ ids)))
       (levels_fifo d false (flat_map (queues gs m as_top) (i ∷ ids)) (next_below d as_top (i ∷ ids) b)))
 

@@ -1,10 +1,11 @@
 -- The rows held do not depend on the order in which previous ids are taken, nor on how often.
 -- Assumes nothing.
+use Rattle.std.specs.List.{list_all, find, flat_map, fold}
+use Rattle.std.specs.Prelude.{Option, None, Some, cond, is_some}
 use mathlib.Core.Bool.{◌||◌, false, not, true}
 use mathlib.Core.List.Memᴰ
 use mathlib.Core.List.{List, Memᴰ, [], ◌++◌, ◌∷◌}
 use mathlib.Core.Logic.{◌⊎◌, inl, inr}
-use mathlib.Core.Option.{Option, none, some}
 use mathlib.Core.Path.{◌∙◌, ◌≡◌, ap, refl, subst, sym}
 use Prim.Native.Nat.{ℕ}
 use lib.Dec.{eqb}
@@ -15,7 +16,7 @@ use Rattle.block_records.proofs.rules.ListLaws.{by_order, rising_put}
 use Rattle.block_records.proofs.rules.Tests.{and_intro, and_left, and_right, clash, on, some_not_none}
 use Rattle.block_records.specs.rules.BlockId.{id_shard, key, less_id, same_shard}
 use Rattle.block_records.specs.rules.Entry.{Entry}
-use Rattle.block_records.specs.rules.Lists.{every, find, flat_map, fold, pick, present, put, rising}
+use Rattle.block_records.specs.rules.Lists.{put, rising}
 use Rattle.cache_rules.specs.Calls.{TailRow}
 use Rattle.cache_rules.specs.Model.{ShardModel, block_under}
 use Rattle.cache_rules.specs.TailIds.{found_gives, gives, hold, hold_over, less_option, tail_before}
@@ -61,13 +62,13 @@ at_shard s rows = find (λ (h : TailRow). same_shard h.shard s) rows
 
 -- the better of a new row and what is held
 abbrev better : TailRow → Option TailRow → Option TailRow
-better t none = some t
-better t (some h) = pick (not (present h.id) || less_option t.id h.id) (some t) (some h)
+better t None = Some t
+better t (Some h) = cond (not (is_some h.id) || less_option t.id h.id) (Some t) (Some h)
 
 abbrev better_at : ShardIdent → Option TailRow → TailRow → Option TailRow
-better_at s x t = pick (same_shard t.shard s) (better t x) x
+better_at s x t = cond (same_shard t.shard s) (better t x) x
 
-put_at : (s : ShardIdent) (t : TailRow) (rows : List TailRow) → at_shard s (put tail_before t rows) ≡ pick (same_shard t.shard s) (some t) (at_shard s rows)
+put_at : (s : ShardIdent) (t : TailRow) (rows : List TailRow) → at_shard s (put tail_before t rows) ≡ cond (same_shard t.shard s) (Some t) (at_shard s rows)
 put_at s t [] = refl
 put_at s t (x ∷ rows) =
     on (tail_before t x)
@@ -84,18 +85,18 @@ put_at s t (x ∷ rows) =
     rw b (on (same_shard t.shard s) (λ d. rw d) (λ d. let c : same_shard x.shard s ≡ false = rw e d in rw (d, c))))))
 
 row_held_at : (s : ShardIdent) (t : TailRow) (rows : List TailRow) (o : Option TailRow) → at_shard t.shard rows ≡ o → at_shard s (hold_over t o rows) ≡ better_at s (at_shard s rows) t
-row_held_at s t rows none h =
+row_held_at s t rows None h =
     put_at s t rows
     ∙ on (same_shard t.shard s)
-    (λ d. let e : at_shard s rows ≡ none = subst (λ (z : ShardIdent). at_shard z rows ≡ none) (same_shard_true t.shard s d) h in rw (d, e))
+    (λ d. let e : at_shard s rows ≡ None = subst (λ (z : ShardIdent). at_shard z rows ≡ None) (same_shard_true t.shard s d) h in rw (d, e))
     (λ d. rw d)
-row_held_at s t rows (some x) h =
-    on (not (present x.id) || less_option t.id x.id)
+row_held_at s t rows (Some x) h =
+    on (not (is_some x.id) || less_option t.id x.id)
     (λ c. on (same_shard t.shard s)
-    (λ d. let e : at_shard s rows ≡ some x = subst (λ (z : ShardIdent). at_shard z rows ≡ some x) (same_shard_true t.shard s d) h in rw c (put_at s t rows ∙ rw (d, e, better, c)))
+    (λ d. let e : at_shard s rows ≡ Some x = subst (λ (z : ShardIdent). at_shard z rows ≡ Some x) (same_shard_true t.shard s d) h in rw c (put_at s t rows ∙ rw (d, e, better, c)))
     (λ d. rw c (put_at s t rows ∙ rw d)))
     (λ c. on (same_shard t.shard s)
-    (λ d. let e : at_shard s rows ≡ some x = subst (λ (z : ShardIdent). at_shard z rows ≡ some x) (same_shard_true t.shard s d) h in rw (c, d, e, better, c))
+    (λ d. let e : at_shard s rows ≡ Some x = subst (λ (z : ShardIdent). at_shard z rows ≡ Some x) (same_shard_true t.shard s d) h in rw (c, d, e, better, c))
     (λ d. rw (c, d)))
 
 hold_at : (s : ShardIdent) (rows : List TailRow) (t : TailRow) → at_shard s (hold rows t) ≡ better_at s (at_shard s rows) t
@@ -109,9 +110,9 @@ abbrev tail_shard : TailRow → ShardIdent
 tail_shard t = t.shard
 
 held_rising : (t : TailRow) (rows : List TailRow) (o : Option TailRow) → rising tail_before rows ≡ true → rising tail_before (hold_over t o rows) ≡ true
-held_rising t rows none h = rising_put tail_before (by_order shard_order tail_shard) t rows h
-held_rising t rows (some x) h =
-    on (not (present x.id) || less_option t.id x.id) (λ c. rw c (rising_put tail_before (by_order shard_order tail_shard) t rows h)) (λ c. rw c h)
+held_rising t rows None h = rising_put tail_before (by_order shard_order tail_shard) t rows h
+held_rising t rows (Some x) h =
+    on (not (is_some x.id) || less_option t.id x.id) (λ c. rw c (rising_put tail_before (by_order shard_order tail_shard) t rows h)) (λ c. rw c h)
 
 pub fold_rising : (ts rows : List TailRow) → rising tail_before rows ≡ true → rising tail_before (fold hold rows ts) ≡ true
 fold_rising [] rows h = h
@@ -119,30 +120,30 @@ fold_rising (t ∷ ts) rows h = fold_rising ts (hold rows t) (held_rising t rows
 
 -- ===== two rising lists that hold the same are one =====
 
-none_later : (x : TailRow) (xs : List TailRow) → every (tail_before x) xs ≡ true → at_shard x.shard xs ≡ none
+none_later : (x : TailRow) (xs : List TailRow) → list_all (tail_before x) xs ≡ true → at_shard x.shard xs ≡ None
 none_later x [] h = refl
 none_later x (y ∷ xs) h =
     on (same_shard y.shard x.shard)
-    (λ t. clash (and_left (tail_before x y) (every (tail_before x) xs) h) (rw (same_shard_true y.shard x.shard t) (shard_order.irrefl x.shard)))
-    (λ t. rw t (none_later x xs (and_right (tail_before x y) (every (tail_before x) xs) h)))
+    (λ t. clash (and_left (tail_before x y) (list_all (tail_before x) xs) h) (rw (same_shard_true y.shard x.shard t) (shard_order.irrefl x.shard)))
+    (λ t. rw t (none_later x xs (and_right (tail_before x y) (list_all (tail_before x) xs) h)))
 
 -- what comes before the first is not there
-none_before : (x y : TailRow) (ys : List TailRow) → tail_before x y ≡ true → every (tail_before y) ys ≡ true → at_shard x.shard (y ∷ ys) ≡ none
+none_before : (x y : TailRow) (ys : List TailRow) → tail_before x y ≡ true → list_all (tail_before y) ys ≡ true → at_shard x.shard (y ∷ ys) ≡ None
 none_before x y ys l h = none_later x (y ∷ ys) (and_intro l (weaken ys h))
   where
-    weaken : (zs : List TailRow) → every (tail_before y) zs ≡ true → every (tail_before x) zs ≡ true
+    weaken : (zs : List TailRow) → list_all (tail_before y) zs ≡ true → list_all (tail_before x) zs ≡ true
     weaken [] k = refl
     weaken (z ∷ zs) k =
-        and_intro ((by_order shard_order tail_shard).trans x y z l (and_left (tail_before y z) (every (tail_before y) zs) k)) (weaken zs (and_right (tail_before y z) (every (tail_before y) zs) k))
+        and_intro ((by_order shard_order tail_shard).trans x y z l (and_left (tail_before y z) (list_all (tail_before y) zs) k)) (weaken zs (and_right (tail_before y z) (list_all (tail_before y) zs) k))
 
-first_at : (x : TailRow) (xs : List TailRow) → at_shard x.shard (x ∷ xs) ≡ some x
+first_at : (x : TailRow) (xs : List TailRow) → at_shard x.shard (x ∷ xs) ≡ Some x
 first_at x xs = rw (same_shard_refl x.shard)
 
-tail_at : (s : ShardIdent) (x : TailRow) (xs ys : List TailRow) → every (tail_before x) xs ≡ true → every (tail_before x) ys ≡ true → at_shard s (x ∷ xs) ≡ at_shard s (x ∷ ys) → at_shard s xs ≡ at_shard s ys
+tail_at : (s : ShardIdent) (x : TailRow) (xs ys : List TailRow) → list_all (tail_before x) xs ≡ true → list_all (tail_before x) ys ≡ true → at_shard s (x ∷ xs) ≡ at_shard s (x ∷ ys) → at_shard s xs ≡ at_shard s ys
 tail_at s x xs ys h k e =
     on (same_shard x.shard s)
     (λ t. let q = same_shard_true x.shard s t in
-    subst (λ (z : ShardIdent). at_shard z xs ≡ none) q (none_later x xs h) ∙ sym (subst (λ (z : ShardIdent). at_shard z ys ≡ none) q (none_later x ys k)))
+    subst (λ (z : ShardIdent). at_shard z xs ≡ None) q (none_later x xs h) ∙ sym (subst (λ (z : ShardIdent). at_shard z ys ≡ None) q (none_later x ys k)))
     (λ t. rw t at e)
 
 pub same_rows : (xs ys : List TailRow) → rising tail_before xs ≡ true → rising tail_before ys ≡ true → ((s : ShardIdent) → at_shard s xs ≡ at_shard s ys) → xs ≡ ys
@@ -150,28 +151,28 @@ same_rows [] [] h k e = refl
 same_rows [] (y ∷ ys) h k e = some_not_none (first_at y ys) (sym (e y.shard))
 same_rows (x ∷ xs) [] h k e = some_not_none (first_at x xs) (e x.shard)
 same_rows (x ∷ xs) (y ∷ ys) h k e =
-    let hx = and_left (every (tail_before x) xs) (rising tail_before xs) h in
-    let ky = and_left (every (tail_before y) ys) (rising tail_before ys) k in
+    let hx = and_left (list_all (tail_before x) xs) (rising tail_before xs) h in
+    let ky = and_left (list_all (tail_before y) ys) (rising tail_before ys) k in
     on (tail_before x y)
     (λ a. some_not_none (first_at x xs) (e x.shard ∙ none_before x y ys a ky))
     (λ a. on (tail_before y x)
     (λ b. some_not_none (first_at y ys) (sym (e y.shard) ∙ none_before y x xs b hx))
     (λ b.
     let q : x.shard ≡ y.shard = shard_level x.shard y.shard a b in
-    let f : some x ≡ some y = sym (first_at x xs) ∙ e x.shard ∙ subst (λ (z : ShardIdent). at_shard z (y ∷ ys) ≡ some y) (sym q) (first_at y ys) in
+    let f : Some x ≡ Some y = sym (first_at x xs) ∙ e x.shard ∙ subst (λ (z : ShardIdent). at_shard z (y ∷ ys) ≡ Some y) (sym q) (first_at y ys) in
     let g : x ≡ y = cc in
-    let ky' : every (tail_before x) ys ≡ true = subst (λ (z : TailRow). every (tail_before z) ys ≡ true) (sym g) ky in
+    let ky' : list_all (tail_before x) ys ≡ true = subst (λ (z : TailRow). list_all (tail_before z) ys ≡ true) (sym g) ky in
     let r : xs ≡ ys =
-    same_rows xs ys (and_right (every (tail_before x) xs) (rising tail_before xs) h) (and_right (every (tail_before y) ys) (rising tail_before ys) k)
+    same_rows xs ys (and_right (list_all (tail_before x) xs) (rising tail_before xs) h) (and_right (list_all (tail_before y) ys) (rising tail_before ys) k)
     (λ s. tail_at s x xs ys hx ky' (e s ∙ subst (λ (z : TailRow). at_shard s (y ∷ ys) ≡ at_shard s (z ∷ ys)) (sym g) refl)) in
     cc))
 
 -- ===== previous ids' rows, in any order and number =====
 
 abbrev row : BlockId → List BlockId → TailRow
-row i ps = record { shard = id_shard i; id = some i; previous = ps }
+row i ps = record { shard = id_shard i; id = Some i; previous = ps }
 
-two : (i j : BlockId) (p q : List BlockId) → (i ≡ j → p ≡ q) → better (row j q) (some (row i p)) ≡ better (row i p) (some (row j q))
+two : (i j : BlockId) (p q : List BlockId) → (i ≡ j → p ≡ q) → better (row j q) (Some (row i p)) ≡ better (row i p) (Some (row j q))
 two i j p q same =
     on (less_id j i)
     (λ a. on (less_id i j) (λ b. clash (id_order.trans i j i b a) (id_order.irrefl i)) (λ b. rw (a, b)))
@@ -180,9 +181,9 @@ two i j p q same =
     (λ b. let e : i ≡ j = id_level i j b a in let r : p ≡ q = same e in rw (a, b) (cc)))
 
 module _ (i j : BlockId) (p q : List BlockId) (same : i ≡ j → p ≡ q) (h : TailRow) where
-  three : (o : Option BlockId) → h.id ≡ o → better (row j q) (better (row i p) (some h)) ≡ better (row i p) (better (row j q) (some h))
-  three none e = rw e (two i j p q same)
-  three (some a) e =
+  three : (o : Option BlockId) → h.id ≡ o → better (row j q) (better (row i p) (Some h)) ≡ better (row i p) (better (row j q) (Some h))
+  three None e = rw e (two i j p q same)
+  three (Some a) e =
       on (less_id i a)
       (λ u. on (less_id j a)
       (λ v. rw (e, u, v) (two i j p q same))
@@ -199,25 +200,25 @@ row_comm s x i j p q same =
     (λ a. on (same_shard (id_shard j) s) (λ b. rw (a, b)) (λ b. rw (a, b)))
   where
     by : (x : Option TailRow) → better (row j q) (better (row i p) x) ≡ better (row i p) (better (row j q) x)
-    by none = two i j p q same
-    by (some h) = three i j p q same h h.id refl
+    by None = two i j p q same
+    by (Some h) = three i j p q same h h.id refl
 
 row_idem : (s : ShardIdent) (x : Option TailRow) (i : BlockId) (p : List BlockId) → better_at s (better_at s x (row i p)) (row i p) ≡ better_at s x (row i p)
 row_idem s x i p = on (same_shard (id_shard i) s) (λ a. rw a (by x)) (λ a. rw a)
   where
-    at : (h : TailRow) (o : Option BlockId) → h.id ≡ o → better (row i p) (better (row i p) (some h)) ≡ better (row i p) (some h)
-    at h none e = rw (e, id_order.irrefl i)
-    at h (some a) e = on (less_id i a) (λ u. rw (e, u, id_order.irrefl i)) (λ u. rw (e, u, u))
+    at : (h : TailRow) (o : Option BlockId) → h.id ≡ o → better (row i p) (better (row i p) (Some h)) ≡ better (row i p) (Some h)
+    at h None e = rw (e, id_order.irrefl i)
+    at h (Some a) e = on (less_id i a) (λ u. rw (e, u, id_order.irrefl i)) (λ u. rw (e, u, u))
 
     by : (x : Option TailRow) → better (row i p) (better (row i p) x) ≡ better (row i p) x
-    by none = rw (id_order.irrefl i)
-    by (some h) = at h h.id refl
+    by None = rw (id_order.irrefl i)
+    by (Some h) = at h h.id refl
 
 -- what an id that was queued as a previous id gives: nothing, or one row under its own name
 module _ (gs : List ShardModel) (m : ℕ) where
   found_shape : (i : BlockId) (o : Option Entry) → (found_gives m false i o ≡ []) ⊎ ((p : List BlockId) × (found_gives m false i o ≡ row i p ∷ []))
-  found_shape i none = inl refl
-  found_shape i (some e) = on (eqb e.reference m) (λ t. inr (e.previous, rw t)) (λ t. inl (rw t))
+  found_shape i None = inl refl
+  found_shape i (Some e) = on (eqb e.reference m) (λ t. inr (e.previous, rw t)) (λ t. inl (rw t))
 
   shape : (i : BlockId) → (gives gs m false i ≡ []) ⊎ ((p : List BlockId) × (gives gs m false i ≡ row i p ∷ []))
   shape i = on (eqb i.seqno 0) (λ t. inl (rw t)) (λ t. rw t (found_shape i (block_under gs (key i))))

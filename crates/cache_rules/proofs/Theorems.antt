@@ -1,18 +1,20 @@
 -- What is proved of the rules, each theorem whole in one place; the proofs are in the modules that it cites.
 -- Assumes nothing.
+use Rattle.block_records.specs.declared.questions.Refusal.{Refusal}
+use Rattle.block_records.specs.declared.questions.Refusal.TheVariants.{AlreadyStored}
+use Rattle.std.specs.List.{fold}
+use Rattle.std.specs.Prelude.{None, Some, map}
 use mathlib.Core.Bool.{true}
 use mathlib.Core.List.{List, [], ◌∷◌}
 use mathlib.Core.Logic.{◌≢◌}
-use mathlib.Core.Option.{none, some}
 use mathlib.Core.Path.{◌≡◌}
 use Prim.Native.Nat.{◌+◌, ◌≤◌, ℕ}
 use lib.ListN.{length}
 use Rattle.block_records.specs.declared.entry.BlockCacheEntry.{BlockCacheEntry}
-use Rattle.block_records.specs.declared.store_records.Keys.{Keys}
+use Rattle.block_records.specs.layout.Listed.{Keys}
 use Rattle.block_records.specs.declared.store_records.ReceivedBlock.{ReceivedBlock}
 use Rattle.block_records.specs.rules.Entry.{Entry}
 use Rattle.block_records.specs.rules.Limits.{rows_limit, slice_places, waiting_places}
-use Rattle.block_records.specs.rules.Lists.{each, fold}
 use Rattle.block_records.specs.rules.Questions.{entry_fits, first_no}
 use Rattle.cache_rules.proofs.ClaimProof.{steps_claim}
 use Rattle.cache_rules.proofs.CollectLaws.{Untouched, collect_untouched, remove_untouched}
@@ -52,16 +54,16 @@ sound_stays = step_sound
 -- ===== refusals =====
 
 -- With no question answered by no, a step does not refuse.
-pub yes_to_all : (m : Model) (call : Call) → first_no (questions m call) ≡ none → refusal (step m call).answer ≡ none
+pub yes_to_all : (m : Model) (call : Call) → first_no (questions m call) ≡ None → refusal (step m call).answer ≡ None
 yes_to_all = never_refused
 
--- The first no is the answer, by its number; model and slice stay as they were.
-pub refusal_changes_nothing : (m : Model) (call : Call) (n : ℕ) → first_no (questions m call) ≡ some n → step m call ≡ record { model = m; answer = refused n; slice = call.lent }
+-- The first no is the answer, by its refusal; model and slice stay as they were.
+pub refusal_changes_nothing : (m : Model) (call : Call) (r : Refusal) → first_no (questions m call) ≡ Some r → step m call ≡ record { model = m; answer = refused r; slice = call.lent }
 refusal_changes_nothing = refused_unchanged
 
 -- On no model that a list of calls makes of an empty one is a received store refused with 7.
 pub seven_is_never_met : (zerostate : ℕ) (calls : List Call) (r : ReceivedBlock) (lent : List BlockCacheEntry) →
-    (step (after (empty_model zerostate) calls) (record { request = store_received r; lent = lent })).answer ≢ refused 7
+    (step (after (empty_model zerostate) calls) (record { request = store_received r; lent = lent })).answer ≢ refused AlreadyStored
 seven_is_never_met = received_never_meets_7
 
 -- ===== extraction =====
@@ -84,7 +86,7 @@ ids_taken m M = taken_count M.id.seqno (starting_ids m.zerostate M) m.shards
 
 module _ (m : Model) (ok : sound_model m ≡ true) (M : Entry) where
   -- The rows are those of the walk as a queue, however it is shown.
-  pub tail_ids_are_the_walk's : (rows : List TailRow) → Fifo m.shards M.id.seqno (each (waits true) (top_ids M)) rows → fold hold (first_row M ∷ []) rows ≡ tails_of m.shards M
+  pub tail_ids_are_the_walk's : (rows : List TailRow) → Fifo m.shards M.id.seqno (map (waits true) (top_ids M)) rows → fold hold (first_row M ∷ []) rows ≡ tails_of m.shards M
   tail_ids_are_the_walk's = tails_literal m ok M
 
   -- Each queued id once gives the same rows.

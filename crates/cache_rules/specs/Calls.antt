@@ -1,17 +1,19 @@
 -- RULES.md, The whole cache and Answers: what can be asked of a cache, and what it answers.
 -- Assumes nothing.
-use Rattle.std.specs.Prelude.{Bool, List, [], ℕ}
-use Rattle.std.proofs.Math.Option.{Option, none, some}
+use Rattle.block_records.specs.declared.range.AppliedRange.{AppliedRange}
+use Rattle.block_records.specs.declared.entry.CandidateStatus.{CandidateStatus}
+use Rattle.block_records.specs.declared.questions.Refusal.{Refusal}
+use Rattle.std.specs.Prelude.{Bool, List, [], ℕ, Option, None, Some}
 use Rattle.block_records.specs.declared.block_id.BlockId.{BlockId}
 use Rattle.block_records.specs.declared.block_id.BlockIdShort.{BlockIdShort}
 use Rattle.block_records.specs.declared.block_id.ShardIdent.{ShardIdent}
 use Rattle.block_records.specs.declared.entry.BlockCacheEntry.{BlockCacheEntry}
 use Rattle.block_records.specs.declared.store_records.BlockCandidate.{BlockCandidate}
-use Rattle.block_records.specs.declared.store_records.Keys.{Keys}
+use Rattle.block_records.specs.layout.Listed.{Keys}
 use Rattle.block_records.specs.declared.store_records.ReceivedBlock.{ReceivedBlock}
 use Rattle.block_records.specs.rules.Entry.{Entry}
 use Rattle.block_records.specs.rules.Lists.{last}
-use Rattle.cache_rules.specs.Model.{Model, Range}
+use Rattle.cache_rules.specs.Model.{Model}
 
 -- the outcome of a validation: complete, with its signature handle and total weight, or skipped
 pub data Validation : Type 0 where
@@ -63,13 +65,13 @@ pub record TailRow : Type 0 where
   pub id : Option BlockId
   pub previous : List BlockId
 
--- what a cache answers: the number of a question whose answer is no, or one of the request's own cases
+-- what a cache answers: the refusal by a question whose answer is no, or one of the request's own cases
 pub data Answer : Type 0 where
-  refused : ℕ → Answer
-  stored : (both mismatch : Bool) → Option BlockId → Option Range → Answer
+  refused : Refusal → Answer
+  stored : (both mismatch : Bool) → Option BlockId → Option AppliedRange → Answer
   synced : Answer
   no_change : Answer
-  validated : (status : ℕ) → Answer
+  validated : (status : CandidateStatus) → Answer
   popped : Extract → (last : Bool) → Answer
   extracted : Extract → Answer
   already_extracted : Answer
@@ -80,33 +82,33 @@ pub data Answer : Type 0 where
 
 -- what an answer hands out
 abbrev pub handed : Answer → Option Extract
-handed (refused n) = none
-handed (stored both mismatch i r) = none
-handed synced = none
-handed no_change = none
-handed (validated st) = none
-handed (popped x last) = some x
-handed (extracted x) = some x
-handed already_extracted = none
-handed nothing = none
-handed (peeked row view) = none
-handed (tail_ids rows) = none
-handed done = none
+handed (refused n) = None
+handed (stored both mismatch i r) = None
+handed synced = None
+handed no_change = None
+handed (validated st) = None
+handed (popped x last) = Some x
+handed (extracted x) = Some x
+handed already_extracted = None
+handed nothing = None
+handed (peeked row view) = None
+handed (tail_ids rows) = None
+handed done = None
 
--- the number that an answer refuses with
-abbrev pub refusal : Answer → Option ℕ
-refusal (refused n) = some n
-refusal (stored both mismatch i r) = none
-refusal synced = none
-refusal no_change = none
-refusal (validated st) = none
-refusal (popped x last) = none
-refusal (extracted x) = none
-refusal already_extracted = none
-refusal nothing = none
-refusal (peeked row v) = none
-refusal (tail_ids rows) = none
-refusal done = none
+-- the refusal that an answer gives
+abbrev pub refusal : Answer → Option Refusal
+refusal (refused n) = Some n
+refusal (stored both mismatch i r) = None
+refusal synced = None
+refusal no_change = None
+refusal (validated st) = None
+refusal (popped x last) = None
+refusal (extracted x) = None
+refusal already_extracted = None
+refusal nothing = None
+refusal (peeked row v) = None
+refusal (tail_ids rows) = None
+refusal done = None
 
 -- what a request that is not refused leaves and answers, and the blocks that it hands out
 pub record Effect : Type 0 where

@@ -1,19 +1,16 @@
 -- RULES.md, Case table: the ids and calls that the table and the edges speak of.
 -- Assumes nothing.
-use Rattle.std.specs.Prelude.{true, List, [], ℕ, negsuc, pos, ℤ, length, replicate}
+use Rattle.std.specs.Prelude.{true, List, [], ℕ, negsuc, pos, ℤ, replicate, None}
 use Rattle.block_records.specs.declared.block_id.BlockId.{BlockId}
 use Rattle.block_records.specs.declared.block_id.BlockIdShort.{BlockIdShort}
 use Rattle.block_records.specs.declared.entry.BlockCacheEntry.{BlockCacheEntry}
-use Rattle.block_records.specs.declared.store_records.Anchor.TheVariants.{Absent}
 use Rattle.block_records.specs.declared.store_records.BlockCandidate.{BlockCandidate}
-use Rattle.block_records.specs.declared.store_records.Keys.{Keys}
-use Rattle.block_records.specs.declared.store_records.PrevIds.{PrevIds}
+use Rattle.block_records.specs.layout.Listed.{Keys, packed}
+use Rattle.block_records.specs.layout.Listed.{PrevIds}
 use Rattle.block_records.specs.declared.top_block.TopBlock.{TopBlock}
-use Rattle.block_records.specs.declared.top_block.TopBlocks.{TopBlocks}
+use Rattle.block_records.specs.layout.Listed.{TopBlocks}
 use Rattle.block_records.specs.layout.Entry.{pack_prev_ids, pack_tops}
-use Rattle.block_records.specs.layout.Zeros.{zero_entry, zero_id}
-use Rattle.block_records.specs.rules.BlockId.{key}
-use Rattle.block_records.specs.rules.Lists.{padded}
+use Rattle.block_records.specs.layout.Zeros.{zero_key, zero_entry}
 use Rattle.cache_rules.specs.Calls.{Call, Request, pop, store_collated, store_received, sync}
 
 -- ===== ids and calls of the table =====
@@ -24,7 +21,7 @@ hash n = replicate 32 n
 
 -- a block id of workchain w, prefix p, seqno n; its root hash is bytes h, its file hash bytes 1
 unfoldable pub block : ℤ → ℕ → ℕ → ℕ → BlockId
-block w p n h = record { prefix = p; workchain = w; seqno = n; root_hash = hash h; file_hash = hash 1 }
+block w p n h = record { shard = record { workchain = w; prefix = p }; seqno = n; root_hash = hash h; file_hash = hash 1 }
 
 -- the master of seqno n
 unfoldable pub mc : ℕ → BlockId
@@ -46,7 +43,7 @@ candidate i reference previous tops =
       ref_by_mc_seqno = reference;
       prev_ids = previous;
       top_blocks = tops;
-      top_anchor = Absent;
+      top_anchor = None;
       processed_to_anchor = 0;
       payload = 0;
     }
@@ -68,7 +65,7 @@ unfoldable pub recv : BlockId → List TopBlock → Call
 recv i tops =
     ask_call
     (store_received
-    (record { block_id = i; ref_block_id = i; prev_ids = pack_prev_ids []; top_blocks = pack_tops tops; top_anchor = Absent; payload = 0 }))
+    (record { block_id = i; ref_block_id = i; prev_ids = pack_prev_ids []; top_blocks = pack_tops tops; top_anchor = None; payload = 0 }))
 
 -- an updated top item
 unfoldable pub top : ℕ → BlockId → TopBlock
@@ -88,4 +85,4 @@ sync_call i = record { request = sync i; lent = slice }
 
 -- a list of keys, zeros in the places that are left
 unfoldable pub keys : List BlockIdShort → Keys
-keys ks = record { keys = padded 9 (key zero_id) ks; count = length ks }
+keys ks = packed 9 zero_key ks

@@ -1,8 +1,8 @@
 -- RULES.md, The claim: of every list of calls, in the rules' own terms.
 -- Assumes nothing.
-use Rattle.std.specs.Prelude.{true, ◌↔◌, ◌≢◌, ◌≡◌, ◌+◌, ◌<◌, ◌≤◌, ℕ, drop, length, take}
+use Rattle.block_records.specs.declared.range.AppliedRange.{AppliedRange}
+use Rattle.std.specs.Prelude.{true, ◌↔◌, ◌≢◌, ◌≡◌, ◌+◌, ◌<◌, ◌≤◌, ℕ, drop, length, take, Option, None, Some}
 use mathlib.Core.List.{List, Memᴰ, [], ◌∷◌}
-use Rattle.std.proofs.Math.Option.{Option, none, some}
 use Rattle.block_records.specs.declared.block_id.BlockId.{BlockId}
 use Rattle.block_records.specs.declared.block_id.BlockIdShort.{BlockIdShort}
 use Rattle.block_records.specs.declared.entry.BlockCacheEntry.{BlockCacheEntry}
@@ -14,7 +14,7 @@ use Rattle.block_records.specs.rules.Lists.{total}
 use Rattle.cache_rules.specs.Calls.{Call, Extract, Outcome, handed}
 use Rattle.cache_rules.specs.Effects.{step}
 use Rattle.cache_rules.specs.Extraction.{starting_ids}
-use Rattle.cache_rules.specs.Model.{Model, Range, ShardModel}
+use Rattle.cache_rules.specs.Model.{Model, ShardModel}
 use Rattle.cache_rules.specs.Refusals.{sound_model}
 
 -- ===== what is cached: membership =====
@@ -80,13 +80,13 @@ pub record HandsOut (before : Model) (lent : List BlockCacheEntry) (x : Extract)
 
 -- there is a mark, and n does not pass it
 abbrev pub AtMost : ℕ → Option ℕ → Type 0
-AtMost n none = ⊥
-AtMost n (some k) = n ≤ k
+AtMost n None = ⊥
+AtMost n (Some k) = n ≤ k
 
 -- no range; or its start does not pass its end, nor its end the mark
-abbrev pub RangeHolds : Option ℕ → Option Range → Type 0
-RangeHolds mark none = Unit {0}
-RangeHolds mark (some r) = (r.start ≤ r.end) × AtMost r.end mark
+abbrev pub RangeHolds : Option ℕ → Option AppliedRange → Type 0
+RangeHolds mark None = Unit {0}
+RangeHolds mark (Some r) = (r.start ≤ r.end) × AtMost r.end mark
 
 -- of a model's range and master mark
 abbrev pub RangeOk : Model → Type 0
@@ -96,8 +96,8 @@ RangeOk m = RangeHolds m.masters.mark m.range
 
 -- of a step from model m that came to o
 pub record StepHolds (m : Model) (call : Call) (o : Outcome) : Type 0 where
-  pub hands_out : (x : Extract) → handed o.answer ≡ some x → HandsOut m call.lent x o.model o.slice
-  pub nothing_out : handed o.answer ≡ none → o.slice ≡ call.lent
+  pub hands_out : (x : Extract) → handed o.answer ≡ Some x → HandsOut m call.lent x o.model o.slice
+  pub nothing_out : handed o.answer ≡ None → o.slice ≡ call.lent
   pub range : RangeOk o.model
   pub sound_still : sound_model o.model ≡ true
 

@@ -1,12 +1,11 @@
 -- RULES.md, Extraction and Peek: the walk from M's top items through previous ids, and the rows that a peek shows.
 -- Assumes nothing.
-use Rattle.std.specs.Prelude.{Bool, ◌&&◌, List, [], ◌++◌, ◌∷◌, ◌+◌, suc, zero, ℕ, eqb, ltb, length}
-use Rattle.std.proofs.Math.Option.{Option, none, some}
+use Rattle.std.specs.Prelude.{Bool, ◌&&◌, List, [], ◌++◌, ◌∷◌, ◌+◌, suc, zero, ℕ, eqb, ltb, length, Option, None, Some, map, cond, filter}
 use Rattle.block_records.specs.declared.block_id.BlockId.{BlockId}
 use Rattle.block_records.specs.declared.top_block.TopBlock.{TopBlock}
 use Rattle.block_records.specs.rules.BlockId.{key}
 use Rattle.block_records.specs.rules.Entry.{Entry}
-use Rattle.block_records.specs.rules.Lists.{each, pick, select, total}
+use Rattle.block_records.specs.rules.Lists.{total}
 use Rattle.cache_rules.specs.Calls.{View}
 use Rattle.cache_rules.specs.Model.{Model, ShardModel, block_under, refresh_shard, remove_block}
 
@@ -16,7 +15,7 @@ starts zerostate t = t.updated && ltb zerostate t.ref_by_mc_seqno
 
 -- M's top items of that sort, as they come
 abbrev pub starting_items : ℕ → Entry → List TopBlock
-starting_items zerostate M = select (starts zerostate) M.tops
+starting_items zerostate M = filter (starts zerostate) M.tops
 
 -- the block id of a top item
 abbrev pub top_id : TopBlock → BlockId
@@ -24,7 +23,7 @@ top_id t = t.block_id
 
 -- the block ids of M's starting items
 abbrev pub starting_ids : ℕ → Entry → List BlockId
-starting_ids zerostate M = each top_id (starting_items zerostate M)
+starting_ids zerostate M = map top_id (starting_items zerostate M)
 
 -- a walk so far: the ids that wait, the shard groups, the blocks of the subgraph with the newest in front, the number of ids taken
 pub record Walk : Type 0 where
@@ -36,9 +35,9 @@ pub record Walk : Type 0 where
 -- the first id is taken, by what is cached under its key: a block that names M goes over to the subgraph, its previous ids go to the end of those
 -- that wait, and the mark of the group is refreshed by the id's seqno; any other block is lost
 abbrev pub take_found : ℕ → BlockId → List BlockId → Walk → Option Entry → Walk
-take_found m i rest w none = record { waiting = rest; shards = w.shards; joined = w.joined; taken = suc w.taken }
-take_found m i rest w (some e) =
-    pick (eqb e.reference m)
+take_found m i rest w None = record { waiting = rest; shards = w.shards; joined = w.joined; taken = suc w.taken }
+take_found m i rest w (Some e) =
+    cond (eqb e.reference m)
     (record {
       waiting = rest ++ e.previous;
       shards = refresh_shard (key i) (remove_block (key i) w.shards);
@@ -86,13 +85,13 @@ extraction_of M m = extract M.id.seqno (starting_ids m.zerostate M) m.shards
 -- the view from a top item on, by the block cached under its key: naming M, it gives a row of the item's id and reference and its own payload; else
 -- the view stops
 abbrev pub seen_top : ℕ → TopBlock → Option Entry → View → View
-seen_top m t none rest = record { rows = []; missing = some (key t.block_id) }
-seen_top m t (some e) rest =
-    pick (eqb e.reference m)
+seen_top m t None rest = record { rows = []; missing = Some (key t.block_id) }
+seen_top m t (Some e) rest =
+    cond (eqb e.reference m)
     (record { rows = record { id = t.block_id; reference = t.ref_by_mc_seqno; payload = e.payload } ∷ rest.rows; missing = rest.missing })
-    (record { rows = []; missing = some (key t.block_id) })
+    (record { rows = []; missing = Some (key t.block_id) })
 
 -- the view of some top items, up to the first that gives no row
 abbrev pub view_tops : ℕ → List ShardModel → List TopBlock → View
-view_tops m gs [] = record { rows = []; missing = none }
+view_tops m gs [] = record { rows = []; missing = None }
 view_tops m gs (t ∷ ts) = seen_top m t (block_under gs (key t.block_id)) (view_tops m gs ts)

@@ -1,10 +1,10 @@
 -- RULES.md, Tail ids: a walk that takes each queued id once; it gives the same rows (proofs/TailAnswer).
 -- Assumes nothing.
-use Rattle.std.specs.Prelude.{Bool, false, true, List, [], ◌++◌, ◌∷◌, suc, zero, ℕ}
+use Rattle.std.specs.List.{find, flat_map, fold}
+use Rattle.std.specs.Prelude.{Bool, false, true, List, [], ◌++◌, ◌∷◌, suc, zero, ℕ, cond, is_some}
 use Rattle.block_records.specs.declared.block_id.BlockId.{BlockId}
 use Rattle.block_records.specs.rules.BlockId.{same_id}
 use Rattle.block_records.specs.rules.Entry.{Entry}
-use Rattle.block_records.specs.rules.Lists.{find, flat_map, fold, pick, present}
 use Rattle.cache_rules.specs.Calls.{TailRow}
 use Rattle.cache_rules.specs.Extraction.{previous_cached}
 use Rattle.cache_rules.specs.Model.{ShardModel}
@@ -12,12 +12,12 @@ use Rattle.cache_rules.specs.TailIds.{first_row, gives, hold, queues, top_ids}
 
 -- the id is one of these
 abbrev pub knows : List BlockId → BlockId → Bool
-knows ids i = present (find (same_id i) ids)
+knows ids i = is_some (find (same_id i) ids)
 
 -- those ids that are not known yet, each once
 abbrev pub unknown_ids : List BlockId → List BlockId → List BlockId
 unknown_ids known [] = []
-unknown_ids known (p ∷ ps) = pick (knows known p) (unknown_ids known ps) (p ∷ unknown_ids (known ++ (p ∷ [])) ps)
+unknown_ids known (p ∷ ps) = cond (knows known p) (unknown_ids known ps) (p ∷ unknown_ids (known ++ (p ∷ [])) ps)
 
 -- the ids taken, and those that wait
 pub record OnceWalk : Type 0 where

@@ -5,15 +5,19 @@
 mod clock;
 mod run;
 mod timed;
-mod times;
 
-use replay_text::output::flush;
+use replay_calls::state::State;
+use replay_text::input::Input;
+use replay_text::output::Output;
 use run::run_script;
 
 fn main(rt: HostRuntime) {
-    let mut input = io::large_buffer();
+    let mut buffer = io::large_buffer();
     let mut line = [0u8; 8192];
-    let mut out = io::large_buffer();
-    let at = run_script(rt, &mut input, &mut line, &mut out);
-    flush(&out, at);
+    let mut printed = io::large_buffer();
+    let mut script = rt.stdin();
+    let mut input = Input::new(&mut script, &mut buffer, &mut line);
+    let mut state = State::new(Output::new(&mut printed));
+    run_script(rt, &mut input, &mut state);
+    state.out.flush();
 }

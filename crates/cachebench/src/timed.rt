@@ -1,206 +1,182 @@
 // A call, timed, and its answer.
-use crate::clock::{microseconds, put_time, since};
-use crate::times;
+use crate::clock::{microseconds, since};
+use block_records::entry::zero_entry;
+use block_records::limits::{ARRAY_PLACES, SLICE_PLACES};
+use block_records::questions::Refusal;
 use blocks_cache::cache::Cache;
-use blocks_cache::collection::CacheChange;
-use blocks_cache::stores::BlockCacheStoreResult;
-use blocks_cache::subgraphs::ArrayExtract;
-use replay_calls::answers::{
-    put_changed, put_extracted, put_peek, put_stored, put_tails, put_validated,
+use blocks_cache::collection::{
+    CacheChange, gc_prev_blocks, remove_next_collated_blocks_from_cache, set_gc_to_boundary,
 };
-use replay_calls::calls::verdict_of;
-use replay_calls::looks::put_sound;
-use replay_calls::state::{Ran, State};
-use replay_text::lines::Line;
-use replay_text::records::{candidate_of, received_of};
-use replay_text::values::{Values, low};
-use replay_text::{forms, values};
+use blocks_cache::peek::peek_front_applied_mc_block_subgraph;
+use blocks_cache::soundness::sound_cache;
+use blocks_cache::stores::{BlockCacheStoreResult, store_collated, store_received};
+use blocks_cache::subgraphs::{ArrayExtract, pop_to_array, sync_to_array};
+use blocks_cache::tail_ids::read_before_tail_ids_of_mc_block;
+use blocks_cache::validation::store_master_block_validation_result;
+use replay_calls::answers::{
+    change_answer, extract_answer, peek_answer, sound_answer, store_answer, tail_answer,
+    validation_answer,
+};
+use replay_calls::calls::{make, validation_status};
+use replay_calls::state::State;
+use replay_text::commands::Call;
+use std::fmt;
 
-// ===== stores and validation =====
+// Makes calls, each so often, once where that is 0, and says how long that took.
+#[derive(Clone, Copy)]
+pub struct Timer {
+    pub clock: HostRuntime,
+    pub times: u32,
+}
 
-fn run_stores(cache: Cache, line: Line, times: u64) -> BlockCacheStoreResult {
-    if line.form == forms::STORE_COLLATED {
-        return times::collated(cache, candidate_of(line.values), times);
+// What a call answered, and the microseconds that all of them took.
+#[derive(Clone, Copy)]
+struct Timed<T> {
+    answer: T,
+    spent: u64,
+}
+
+// A closure in place of the call would cost one more copy of the cache each time.
+macro_rules! timed {
+    ($timer:expr, $call:expr) => {{
+        let start = microseconds($timer.clock);
+        for _ in 1..$timer.times {
+            let _ = $call;
+        }
+        let answer = $call;
+        let spent = since($timer.clock, start);
+        Timed { answer, spent }
+    }};
+}
+
+impl Timer {
+    // The answer, and the line about a timed call.
+    fn answer<D: fmt::Display + Drop>(
+        self,
+        state: &mut State<'_>,
+        answer: Result<D, Refusal>,
+        spent: u64,
+    ) {
+        state.answer(answer);
+        let times = self.times;
+        if times != 0 {
+            state.print(format_args!("time {times} calls {spent} microseconds"));
+        }
     }
-    times::received(cache, received_of(line.values), times)
 }
 
-fn run_store(
-    clock: HostRuntime,
-    out: &mut [u8],
-    before: Cache,
-    state: State,
-    line: Line,
-    times: u64,
-) -> Ran {
-    let start = microseconds(clock);
-    let stored = run_stores(before, line, times);
-    let spent = since(clock, start);
-    let answer = stored.answer;
-    let range = stored.applied_mc_queue_range;
-    let said = put_stored(out, state, answer, stored.last_collated_mc_block_id, range);
-    let cache = stored.cache;
-    let next = put_time(out, said, times, spent);
-    Ran { cache, state: next }
+fn put_stored(
+    timer: Timer,
+    state: &mut State<'_>,
+    cache: &mut Cache,
+    timed: Timed<BlockCacheStoreResult>,
+) {
+    timer.answer(state, store_answer(&timed.answer), timed.spent);
+    *cache = timed.answer.cache;
 }
 
-fn run_validation(
-    clock: HostRuntime,
-    out: &mut [u8],
-    before: Cache,
-    state: State,
-    values: Values,
-    times: u64,
-) -> Ran {
-    let verdict = verdict_of(values);
-    let start = microseconds(clock);
-    let result = times::validated(before, values.id, verdict, times);
-    let spent = since(clock, start);
-    let answer = result.answer;
-    let said = put_validated(out, state, answer);
-    let cache = result.cache;
-    let next = put_time(out, said, times, spent);
-    Ran { cache, state: next }
+fn put_extracted(
+    timer: Timer,
+    state: &mut State<'_>,
+    cache: &mut Cache,
+    timed: Timed<ArrayExtract>,
+) {
+    timer.answer(state, extract_answer(&timed.answer), timed.spent);
+    *cache = timed.answer.extract.cache;
 }
 
-// ===== extraction =====
+fn put_changed(timer: Timer, state: &mut State<'_>, cache: &mut Cache, timed: Timed<CacheChange>) {
+    timer.answer(state, change_answer(timed.answer.answer), timed.spent);
+    *cache = timed.answer.cache;
+}
 
-fn run_extracts(cache: Cache, line: Line, times: u64) -> ArrayExtract {
-    let values = line.values;
-    if line.form == forms::POP {
-        return times::popped(cache, low(values.numbers[values::NUMBER]), times);
+fn run_change(timer: Timer, state: &mut State<'_>, cache: &mut Cache, call: &Call) {
+    let given = *cache;
+    match *call {
+        Call::StoreCollated(candidate) => {
+            put_stored(
+                timer,
+                state,
+                cache,
+                timed!(timer, store_collated(given, candidate)),
+            );
+        }
+        Call::StoreReceived(block) => {
+            put_stored(
+                timer,
+                state,
+                cache,
+                timed!(timer, store_received(given, block)),
+            );
+        }
+        Call::Validation(id, verdict) => {
+            let status = validation_status(verdict);
+            let timed = timed!(
+                timer,
+                store_master_block_validation_result(given, id, status)
+            );
+            timer.answer(state, validation_answer(timed.answer.answer), timed.spent);
+            *cache = timed.answer.cache;
+        }
+        Call::Boundary(keys) => {
+            put_changed(
+                timer,
+                state,
+                cache,
+                timed!(timer, set_gc_to_boundary(given, keys)),
+            );
+        }
+        Call::RemoveNext(keys) => {
+            let timed = timed!(timer, remove_next_collated_blocks_from_cache(given, keys));
+            put_changed(timer, state, cache, timed);
+        }
+        Call::Collect => put_changed(timer, state, cache, timed!(timer, gc_prev_blocks(given))),
+        _ => {}
     }
-    times::synced(cache, values.id, times)
 }
 
-fn run_extraction(
-    clock: HostRuntime,
-    out: &mut [u8],
-    before: Cache,
-    state: State,
-    line: Line,
-    times: u64,
-) -> Ran {
-    let start = microseconds(clock);
-    let got = run_extracts(before, line, times);
-    let spent = since(clock, start);
-    let said = put_extracted(out, state, got);
-    let next = put_time(out, said, times, spent);
-    let extract = got.extract;
-    let cache = extract.cache;
-    Ran { cache, state: next }
+fn run_extraction(timer: Timer, state: &mut State<'_>, cache: &mut Cache, call: &Call) {
+    let given = *cache;
+    let blocks = [zero_entry(); ARRAY_PLACES];
+    match *call {
+        Call::Pop(from) => {
+            let timed = timed!(timer, pop_to_array(given, from, blocks, SLICE_PLACES));
+            put_extracted(timer, state, cache, timed);
+        }
+        Call::Sync(id) => {
+            let timed = timed!(timer, sync_to_array(given, id, blocks, SLICE_PLACES));
+            put_extracted(timer, state, cache, timed);
+        }
+        _ => {}
+    }
 }
 
-// ===== collection =====
-
-fn run_changes(cache: Cache, line: Line, times: u64) -> CacheChange {
-    let values = line.values;
-    if line.form == forms::BOUNDARY {
-        return times::bounded(cache, values.keys, times);
+// What leaves the cache as it is.
+fn run_look(timer: Timer, state: &mut State<'_>, cache: &Cache, call: &Call) {
+    let given = *cache;
+    match *call {
+        Call::Peek(from) => {
+            let timed = timed!(timer, peek_front_applied_mc_block_subgraph(given, from));
+            timer.answer(state, peek_answer(&timed.answer), timed.spent);
+        }
+        Call::TailIds(key) => {
+            let timed = timed!(timer, read_before_tail_ids_of_mc_block(given, key));
+            timer.answer(state, tail_answer(&timed.answer), timed.spent);
+        }
+        Call::Sound => {
+            let timed = timed!(timer, sound_cache(given));
+            timer.answer(state, sound_answer(timed.answer), timed.spent);
+        }
+        _ => {}
     }
-    if line.form == forms::COLLECT {
-        return times::collected(cache, times);
-    }
-    times::removed(cache, values.keys, times)
 }
 
-fn run_change(
-    clock: HostRuntime,
-    out: &mut [u8],
-    before: Cache,
-    state: State,
-    line: Line,
-    times: u64,
-) -> Ran {
-    let start = microseconds(clock);
-    let change = run_changes(before, line, times);
-    let spent = since(clock, start);
-    let answer = change.answer;
-    let said = put_changed(out, state, answer);
-    let cache = change.cache;
-    let next = put_time(out, said, times, spent);
-    Ran { cache, state: next }
-}
-
-// ===== what leaves the cache as it is =====
-
-fn run_peek(
-    clock: HostRuntime,
-    out: &mut [u8],
-    cache: Cache,
-    state: State,
-    values: Values,
-    times: u64,
-) -> State {
-    let start = microseconds(clock);
-    let peek = times::peeked(cache, low(values.numbers[values::NUMBER]), times);
-    let spent = since(clock, start);
-    let said = put_peek(out, state, peek);
-    put_time(out, said, times, spent)
-}
-
-fn run_tail_ids(
-    clock: HostRuntime,
-    out: &mut [u8],
-    cache: Cache,
-    state: State,
-    values: Values,
-    times: u64,
-) -> State {
-    let start = microseconds(clock);
-    let ids = times::tail_ids(cache, values.key, times);
-    let spent = since(clock, start);
-    let answer = ids.answer;
-    let said = put_tails(out, state, answer, ids.tails);
-    put_time(out, said, times, spent)
-}
-
-fn run_sound(clock: HostRuntime, out: &mut [u8], cache: Cache, state: State, times: u64) -> State {
-    let start = microseconds(clock);
-    let sound = times::sound(cache, times);
-    let spent = since(clock, start);
-    let said = put_sound(out, state, sound);
-    put_time(out, said, times, spent)
-}
-
-fn run_look(
-    clock: HostRuntime,
-    out: &mut [u8],
-    cache: Cache,
-    state: State,
-    line: Line,
-    times: u64,
-) -> State {
-    if line.form == forms::PEEK {
-        return run_peek(clock, out, cache, state, line.values, times);
+// A new cache is made once, and not timed.
+pub fn run_call(timer: Timer, state: &mut State<'_>, cache: &mut Cache, call: &Call) {
+    match call {
+        Call::New(zerostate) => make(state, cache, *zerostate),
+        Call::Pop(_) | Call::Sync(_) => run_extraction(timer, state, cache, call),
+        Call::Peek(_) | Call::TailIds(_) | Call::Sound => run_look(timer, state, cache, call),
+        _ => run_change(timer, state, cache, call),
     }
-    if line.form == forms::TAIL_IDS {
-        return run_tail_ids(clock, out, cache, state, line.values, times);
-    }
-    run_sound(clock, out, cache, state, times)
-}
-
-// A call but `new`, made so often, once where that is 0.
-pub fn run_call(
-    clock: HostRuntime,
-    out: &mut [u8],
-    cache: Cache,
-    state: State,
-    line: Line,
-    times: u64,
-) -> Ran {
-    if line.form <= forms::STORE_RECEIVED {
-        return run_store(clock, out, cache, state, line, times);
-    }
-    if line.form == forms::VALIDATION {
-        return run_validation(clock, out, cache, state, line.values, times);
-    }
-    if line.form <= forms::REMOVE_NEXT {
-        return run_change(clock, out, cache, state, line, times);
-    }
-    if line.form == forms::POP || line.form == forms::SYNC {
-        return run_extraction(clock, out, cache, state, line, times);
-    }
-    let next = run_look(clock, out, cache, state, line, times);
-    Ran { cache, state: next }
 }

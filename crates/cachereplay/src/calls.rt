@@ -1,291 +1,141 @@
 // A line's call on the cache, and its answer.
-use crate::answers::{
-    Cursor, put_bad, put_changed, put_made, put_peek, put_stored, put_tails, put_validated,
-};
-use crate::output::put_text;
-use crate::read::{read_id, read_key, read_keys, read_u32};
-use crate::records::{read_candidate, read_received, read_u64};
-use crate::scan::{Scan, expect, expect_end, is_good, is_word};
-use crate::times::{microseconds, put_time, since};
-use crate::{expected, times};
-use block_records::block_id::BlockId;
+use crate::answers::{Changed, Extracted, Made, Peeked, Sound, Stored, Tails, Validated};
+use crate::commands::Call;
+use crate::expected::Unexpected;
+use crate::records::Validation;
+use crate::replay::Replay;
+use crate::scan::Scanner;
+use crate::times::Timed;
+use block_records::block_id::{BlockId, BlockIdShort};
 use block_records::store_records::{BlockCandidate, Keys, ReceivedBlock};
-use blocks_cache::cache::{Cache, NewCacheAnswer, empty};
-use blocks_cache::validation::ValidationStatus;
+use blocks_cache::cache::empty;
+use blocks_cache::collection::{
+    CacheChange, gc_prev_blocks, remove_next_collated_blocks_from_cache, set_gc_to_boundary,
+};
+use blocks_cache::peek::peek_front_applied_mc_block_subgraph;
+use blocks_cache::soundness::sound_cache;
+use blocks_cache::stores::{BlockCacheStoreResult, store_collated, store_received};
+use blocks_cache::subgraphs::{ArrayExtract, pop_to_array, sync_to_array};
+use blocks_cache::tail_ids::read_before_tail_ids_of_mc_block;
+use blocks_cache::validation::store_master_block_validation_result;
 
-// The cache after a line, and where the next byte goes.
-#[derive(Clone, Copy)]
-pub struct Ran {
-    pub cache: Cache,
-    pub at: usize,
-}
-
-#[derive(Clone, Copy)]
-struct StatusRead {
-    status: ValidationStatus,
-    scan: Scan,
-}
-
-// The line is not as it should be: the cache stays.
-pub fn bad_line(cache: Cache, out: &mut [u8], cursor: Cursor, scan: Scan) -> Ran {
-    let at = put_bad(out, cursor, scan);
-    Ran { cache, at }
-}
-
-// The cache that a call made; where it was refused, the one before.
-fn made_or(cache: Cache, made: Cache, answer: NewCacheAnswer) -> Cache {
-    match answer {
-        NewCacheAnswer::Made => made,
-        NewCacheAnswer::Refused(number) => cache,
+impl Replay<'_> {
+    pub fn call(&mut self, call: Call, line: &mut Scanner<'_>) -> Result<(), Unexpected> {
+        match call {
+            Call::New => self.make(line.only()?),
+            Call::StoreCollated => self.store_collated(line.only()?),
+            Call::StoreReceived => self.store_received(line.only()?),
+            Call::Validation => self.validate(line.only()?),
+            Call::Pop => self.pop(line.only()?),
+            Call::Sync => self.sync(line.only()?),
+            Call::Peek => self.peek(line.only()?),
+            Call::TailIds => self.tail_ids(line.only()?),
+            Call::Boundary => self.bound(line.only()?),
+            Call::RemoveNext => self.remove_next(line.only()?),
+            Call::Collect => {
+                line.end()?;
+                self.collect();
+            }
+            Call::Sound => {
+                line.end()?;
+                self.sound();
+            }
+        }
+        Ok(())
     }
-}
 
-fn make(cache: Cache, zerostate: u32, out: &mut [u8], at: usize) -> Ran {
-    let new = empty(zerostate);
-    let answer = new.answer;
-    let next = put_made(out, at, answer);
-    let kept = made_or(cache, new.cache, answer);
-    Ran {
-        cache: kept,
-        at: next,
+    // A call that is refused leaves the cache as it is.
+    fn make(&mut self, zerostate: u32) {
+        let new = empty(zerostate);
+        if new.answer.is_ok() {
+            self.cache = new.cache;
+        }
+        self.out.print(Made(new.answer));
     }
-}
 
-pub fn run_new(cache: Cache, line: &[u8], start: Scan, out: &mut [u8], cursor: Cursor) -> Ran {
-    let read = read_u32(line, start);
-    let end = expect_end(line, read.scan, expected::END);
-    if !is_good(end) {
-        return bad_line(cache, out, cursor, end);
+    fn store_collated(&mut self, candidate: BlockCandidate) {
+        let stored = self.measure(|| store_collated(self.cache, candidate));
+        self.stored(stored);
     }
-    make(cache, read.value, out, cursor.at)
-}
 
-fn collated(before: Cache, candidate: BlockCandidate, out: &mut [u8], cursor: Cursor) -> Ran {
-    let start = microseconds(cursor.clock);
-    let result = times::collated(before, candidate, cursor.times);
-    let spent = since(cursor.clock, start);
-    let answer = result.answer;
-    let range = result.applied_mc_queue_range;
-    let at = put_stored(
-        out,
-        cursor.at,
-        answer,
-        result.last_collated_mc_block_id,
-        range,
-    );
-    let next = put_time(out, at, cursor.times, spent);
-    let cache = result.cache;
-    Ran { cache, at: next }
-}
-
-pub fn run_store_collated(
-    cache: Cache,
-    line: &[u8],
-    start: Scan,
-    out: &mut [u8],
-    cursor: Cursor,
-) -> Ran {
-    let read = read_candidate(line, start);
-    let end = expect_end(line, read.scan, expected::END);
-    if !is_good(end) {
-        return bad_line(cache, out, cursor, end);
+    fn store_received(&mut self, block: ReceivedBlock) {
+        let stored = self.measure(|| store_received(self.cache, block));
+        self.stored(stored);
     }
-    collated(cache, read.candidate, out, cursor)
-}
 
-fn received(before: Cache, block: ReceivedBlock, out: &mut [u8], cursor: Cursor) -> Ran {
-    let start = microseconds(cursor.clock);
-    let result = times::received(before, block, cursor.times);
-    let spent = since(cursor.clock, start);
-    let answer = result.answer;
-    let range = result.applied_mc_queue_range;
-    let at = put_stored(
-        out,
-        cursor.at,
-        answer,
-        result.last_collated_mc_block_id,
-        range,
-    );
-    let next = put_time(out, at, cursor.times, spent);
-    let cache = result.cache;
-    Ran { cache, at: next }
-}
-
-pub fn run_store_received(
-    cache: Cache,
-    line: &[u8],
-    start: Scan,
-    out: &mut [u8],
-    cursor: Cursor,
-) -> Ran {
-    let read = read_received(line, start);
-    let end = expect_end(line, read.scan, expected::END);
-    if !is_good(end) {
-        return bad_line(cache, out, cursor, end);
+    fn stored(&mut self, stored: Timed<BlockCacheStoreResult>) {
+        let Timed { result, time } = stored;
+        self.answer(Stored(&result), time);
+        self.cache = result.cache;
     }
-    received(cache, read.received, out, cursor)
-}
 
-fn read_complete(line: &[u8], start: Scan) -> StatusRead {
-    let a = expect(line, start, b"complete ", expected::RESULT);
-    let handle = read_u64(line, a);
-    let b = expect(line, handle.scan, b" ", expected::SPACE);
-    let weight = read_u64(line, b);
-    let scan = weight.scan;
-    let status = ValidationStatus::Complete {
-        signatures: handle.value,
-        total_weight: weight.value,
-    };
-    StatusRead { status, scan }
-}
-
-fn read_validation(line: &[u8], start: Scan) -> StatusRead {
-    if is_word(line, start, b"skipped") {
-        let scan = expect(line, start, b"skipped", expected::RESULT);
-        return StatusRead {
-            status: ValidationStatus::Skipped,
-            scan,
-        };
+    fn validate(&mut self, validation: Validation) {
+        let Validation { block_id, status } = validation;
+        let Timed { result, time } = self.measure(|| {
+            store_master_block_validation_result(self.cache, block_id, status)
+        });
+        self.answer(Validated(result.answer), time);
+        self.cache = result.cache;
     }
-    read_complete(line, start)
-}
 
-fn validate(
-    before: Cache,
-    id: BlockId,
-    status: ValidationStatus,
-    out: &mut [u8],
-    cursor: Cursor,
-) -> Ran {
-    let start = microseconds(cursor.clock);
-    let result = times::validated(before, id, status, cursor.times);
-    let spent = since(cursor.clock, start);
-    let answer = result.answer;
-    let at = put_validated(out, cursor.at, answer);
-    let next = put_time(out, at, cursor.times, spent);
-    let cache = result.cache;
-    Ran { cache, at: next }
-}
-
-pub fn run_validation(
-    cache: Cache,
-    line: &[u8],
-    start: Scan,
-    out: &mut [u8],
-    cursor: Cursor,
-) -> Ran {
-    let read = read_id(line, start);
-    let space = expect(line, read.scan, b" ", expected::SPACE);
-    let result = read_validation(line, space);
-    let end = expect_end(line, result.scan, expected::END);
-    if !is_good(end) {
-        return bad_line(cache, out, cursor, end);
+    fn pop(&mut self, from: u32) {
+        let extracted = self.measure(|| {
+            pop_to_array(self.cache, from, self.blocks, self.places)
+        });
+        self.extracted(extracted);
     }
-    let status = result.status;
-    validate(cache, read.id, status, out, cursor)
-}
 
-pub fn run_peek(cache: Cache, line: &[u8], start: Scan, out: &mut [u8], cursor: Cursor) -> usize {
-    let read = read_u32(line, start);
-    let end = expect_end(line, read.scan, expected::END);
-    if !is_good(end) {
-        return put_bad(out, cursor, end);
+    fn sync(&mut self, id: BlockId) {
+        let extracted = self.measure(|| {
+            sync_to_array(self.cache, id, self.blocks, self.places)
+        });
+        self.extracted(extracted);
     }
-    let start = microseconds(cursor.clock);
-    let peek = times::peeked(cache, read.value, cursor.times);
-    let spent = since(cursor.clock, start);
-    let at = put_peek(out, cursor.at, peek);
-    put_time(out, at, cursor.times, spent)
-}
 
-pub fn run_tail_ids(
-    cache: Cache,
-    line: &[u8],
-    start: Scan,
-    out: &mut [u8],
-    cursor: Cursor,
-) -> usize {
-    let read = read_key(line, start);
-    let end = expect_end(line, read.scan, expected::END);
-    if !is_good(end) {
-        return put_bad(out, cursor, end);
+    fn extracted(&mut self, extracted: Timed<ArrayExtract>) {
+        let Timed { result, time } = extracted;
+        self.answer(Extracted(&result), time);
+        self.cache = result.extract.cache;
+        self.blocks = result.blocks;
     }
-    let start = microseconds(cursor.clock);
-    let ids = times::tail_ids(cache, read.short, cursor.times);
-    let spent = since(cursor.clock, start);
-    let answer = ids.answer;
-    let at = put_tails(out, cursor.at, answer, ids.tails);
-    put_time(out, at, cursor.times, spent)
-}
 
-fn bound(before: Cache, keys: Keys, out: &mut [u8], cursor: Cursor) -> Ran {
-    let start = microseconds(cursor.clock);
-    let change = times::bounded(before, keys, cursor.times);
-    let spent = since(cursor.clock, start);
-    let answer = change.answer;
-    let at = put_changed(out, cursor.at, answer);
-    let next = put_time(out, at, cursor.times, spent);
-    let cache = change.cache;
-    Ran { cache, at: next }
-}
-
-pub fn run_boundary(cache: Cache, line: &[u8], start: Scan, out: &mut [u8], cursor: Cursor) -> Ran {
-    let read = read_keys(line, start);
-    let end = expect_end(line, read.scan, expected::END);
-    if !is_good(end) {
-        return bad_line(cache, out, cursor, end);
+    fn peek(&mut self, from: u32) {
+        let Timed { result, time } = self.measure(|| {
+            peek_front_applied_mc_block_subgraph(self.cache, from)
+        });
+        self.answer(Peeked(&result), time);
     }
-    bound(cache, read.keys, out, cursor)
-}
 
-fn remove(before: Cache, keys: Keys, out: &mut [u8], cursor: Cursor) -> Ran {
-    let start = microseconds(cursor.clock);
-    let change = times::removed(before, keys, cursor.times);
-    let spent = since(cursor.clock, start);
-    let answer = change.answer;
-    let at = put_changed(out, cursor.at, answer);
-    let next = put_time(out, at, cursor.times, spent);
-    let cache = change.cache;
-    Ran { cache, at: next }
-}
-
-pub fn run_remove_next(
-    cache: Cache,
-    line: &[u8],
-    start: Scan,
-    out: &mut [u8],
-    cursor: Cursor,
-) -> Ran {
-    let read = read_keys(line, start);
-    let end = expect_end(line, read.scan, expected::END);
-    if !is_good(end) {
-        return bad_line(cache, out, cursor, end);
+    fn tail_ids(&mut self, key: BlockIdShort) {
+        let Timed { result, time } = self.measure(|| {
+            read_before_tail_ids_of_mc_block(self.cache, key)
+        });
+        self.answer(Tails(&result), time);
     }
-    remove(cache, read.keys, out, cursor)
-}
 
-pub fn run_collect(before: Cache, out: &mut [u8], cursor: Cursor) -> Ran {
-    let start = microseconds(cursor.clock);
-    let change = times::collected(before, cursor.times);
-    let spent = since(cursor.clock, start);
-    let answer = change.answer;
-    let at = put_changed(out, cursor.at, answer);
-    let next = put_time(out, at, cursor.times, spent);
-    let cache = change.cache;
-    Ran { cache, at: next }
-}
-
-fn put_sound(out: &mut [u8], at: usize, sound: bool) -> usize {
-    if sound {
-        return put_text(out, at, b"sound\n");
+    fn bound(&mut self, keys: Keys) {
+        let changed = self.measure(|| set_gc_to_boundary(self.cache, keys));
+        self.changed(changed);
     }
-    put_text(out, at, b"unsound\n")
-}
 
-pub fn run_sound(cache: Cache, out: &mut [u8], cursor: Cursor) -> usize {
-    let start = microseconds(cursor.clock);
-    let sound = times::sound(cache, cursor.times);
-    let spent = since(cursor.clock, start);
-    let at = put_sound(out, cursor.at, sound);
-    put_time(out, at, cursor.times, spent)
+    fn remove_next(&mut self, keys: Keys) {
+        let changed = self.measure(|| remove_next_collated_blocks_from_cache(self.cache, keys));
+        self.changed(changed);
+    }
+
+    fn collect(&mut self) {
+        let changed = self.measure(|| gc_prev_blocks(self.cache));
+        self.changed(changed);
+    }
+
+    fn changed(&mut self, changed: Timed<CacheChange>) {
+        let Timed { result, time } = changed;
+        self.answer(Changed(result.answer), time);
+        self.cache = result.cache;
+    }
+
+    fn sound(&mut self) {
+        let Timed { result, time } = self.measure(|| sound_cache(self.cache));
+        self.answer(Sound(result), time);
+    }
 }

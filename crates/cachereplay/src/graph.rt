@@ -1,258 +1,241 @@
 // The cache as a graph for Graphviz: masters in bold, shards as boxes around their blocks; an edge to what is not cached is dotted, and one to a
 // block that names another master is dashed and red. A block is looked up by its id's key, as the calls do it.
-use crate::output::{put, put_hash, put_number, put_text};
-use crate::spell::{put_key, put_shard};
-use block_records::block_id::{BlockId, id_shard, key, same_id, same_shard};
-use block_records::entry::{BlockCacheEntry, held_received, zero_entry};
-use block_records::limits::{ENTRIES_LIMIT, SHARDS_LIMIT, TOPS_LIMIT};
-use block_records::place::Place;
+use crate::parts::{entries, shards};
+use block_records::block_id::BlockId;
+use block_records::entry::{BlockCacheEntry, held_received};
 use block_records::top_block::{TopBlock, TopBlocks};
 use blocks_cache::cache::{Cache, ShardGroup};
-use blocks_group::group::{EntryAt, entry_at};
+use blocks_group::group::entry_at;
+use std::fmt;
 
-fn put_name(out: &mut [u8], at: usize, id: BlockId) -> usize {
-    let a = put(out, at, b'"');
-    let b = put_key(out, a, key(id));
-    put(out, b, b'"')
-}
+#[derive(Clone, Copy)]
+pub struct Graph<'a>(pub &'a Cache);
 
-fn put_kind(out: &mut [u8], at: usize, entry: BlockCacheEntry) -> usize {
-    if held_received(entry) {
-        return put_text(out, at, b" received");
+impl fmt::Display for Graph<'_> {
+    fn fmt<W: fmt::Write>(&self, f: &mut fmt::Formatter<W>) -> fmt::Result {
+        let cache = self.0;
+        writeln!(
+            f,
+            "digraph cache {{\n  rankdir=RL;\n  node [shape=box, style=dotted];"
+        )?;
+        let masters = &cache.masters;
+        for (entry, tops) in entries(&masters.group).iter().zip(&masters.tops) {
+            let master = Master { cache, entry, tops };
+            write!(f, "{master}")?;
+        }
+        for shard in shards(cache) {
+            let shard = Cluster { cache, shard };
+            write!(f, "{shard}")?;
+        }
+        writeln!(f, "}}")
     }
-    put_text(out, at, b" collated")
 }
 
-// The key, the root hash's first bytes, the master that it names, and the kind.
-fn put_label(out: &mut [u8], at: usize, entry: BlockCacheEntry) -> usize {
-    let id = entry.block_id;
-    let root = id.root_hash;
-    let a = put_key(out, at, key(id));
-    let b = put_text(out, a, b"\\nroot ");
-    let c = put_hash(out, b, root, 4);
-    let d = put_text(out, c, b"\\nnames ");
-    let e = put_number(out, d, entry.ref_by_mc_seqno as u64);
-    put_kind(out, e, entry)
-}
+// ===== nodes =====
 
-fn put_node(out: &mut [u8], at: usize, entry: BlockCacheEntry, bold: bool) -> usize {
-    let a = put_text(out, at, b"    ");
-    let b = put_name(out, a, entry.block_id);
-    let c = put_text(out, b, b" [label=\"");
-    let d = put_label(out, c, entry);
-    if bold {
-        return put_text(out, d, b"\", style=bold];\n");
+// The first four bytes of a hash.
+#[derive(Clone, Copy)]
+struct Front([u8; 32]);
+
+impl fmt::Display for Front {
+    fn fmt<W: fmt::Write>(&self, f: &mut fmt::Formatter<W>) -> fmt::Result {
+        for byte in self.0.iter().take(4) {
+            write!(f, "{byte:02x}")?;
+        }
+        Ok(())
     }
-    put_text(out, d, b"\", style=solid];\n")
 }
 
-fn put_edge(out: &mut [u8], at: usize, from: BlockId, to: BlockId) -> usize {
-    let a = put_text(out, at, b"  ");
-    let b = put_name(out, a, from);
-    let c = put_text(out, b, b" -> ");
-    put_name(out, c, to)
+// The key, the front of the root hash, the master that it names, and the kind.
+#[derive(Clone, Copy)]
+struct Node<'a> {
+    entry: &'a BlockCacheEntry,
+    style: &'static str,
 }
 
-// How the edge to a cached block looks.
-fn put_cached(
-    out: &mut [u8],
-    at: usize,
-    entry: BlockCacheEntry,
-    id: BlockId,
-    master: u32,
-) -> usize {
-    if !same_id(entry.block_id, id) {
-        return put_text(
-            out,
-            at,
-            b" [style=dashed, color=orange, label=\"another id\"];\n",
-        );
+impl fmt::Display for Node<'_> {
+    fn fmt<W: fmt::Write>(&self, f: &mut fmt::Formatter<W>) -> fmt::Result {
+        let key = self.entry.block_id.as_short_id();
+        let root = Front(self.entry.block_id.root_hash);
+        let named = self.entry.ref_by_mc_seqno;
+        let kind = if held_received(*self.entry) {
+            "received"
+        } else {
+            "collated"
+        };
+        let style = self.style;
+        write!(
+            f,
+            "    \"{key}\" [label=\"{key}\\nroot {root}\\nnames {named} {kind}\""
+        )?;
+        writeln!(f, ", style={style}];")
     }
-    if entry.ref_by_mc_seqno != master {
-        return put_text(out, at, b" [style=dashed, color=red, label=foreign];\n");
+}
+
+#[derive(Clone, Copy)]
+struct Master<'a> {
+    cache: &'a Cache,
+    entry: &'a BlockCacheEntry,
+    tops: &'a TopBlocks,
+}
+
+impl fmt::Display for Master<'_> {
+    fn fmt<W: fmt::Write>(&self, f: &mut fmt::Formatter<W>) -> fmt::Result {
+        let id = self.entry.block_id;
+        let node = Node {
+            entry: self.entry,
+            style: "bold",
+        };
+        write!(f, "{node}")?;
+        if let Some(parent) = self.entry.prev_ids.listed().first() {
+            let edge = Edge {
+                from: id,
+                to: *parent,
+            };
+            writeln!(f, "{edge} [color=gray];")?;
+        }
+        for top in self.tops.listed() {
+            let top = TopEdge {
+                cache: self.cache,
+                master: id,
+                top,
+            };
+            write!(f, "{top}")?;
+        }
+        Ok(())
     }
-    put_text(out, at, b";\n")
+}
+
+// A shard's blocks in their box, then the edges to their parents.
+#[derive(Clone, Copy)]
+struct Cluster<'a> {
+    cache: &'a Cache,
+    shard: &'a ShardGroup,
+}
+
+impl fmt::Display for Cluster<'_> {
+    fn fmt<W: fmt::Write>(&self, f: &mut fmt::Formatter<W>) -> fmt::Result {
+        let ShardGroup { shard, group } = self.shard;
+        writeln!(
+            f,
+            "  subgraph \"cluster_{shard}\" {{\n    label=\"shard {shard}\";"
+        )?;
+        for entry in entries(group) {
+            let node = Node {
+                entry,
+                style: "solid",
+            };
+            write!(f, "{node}")?;
+        }
+        writeln!(f, "  }}")?;
+        for entry in entries(group) {
+            let parents = Parents {
+                cache: self.cache,
+                entry,
+            };
+            write!(f, "{parents}")?;
+        }
+        Ok(())
+    }
+}
+
+// ===== edges =====
+
+#[derive(Clone, Copy)]
+struct Edge {
+    from: BlockId,
+    to: BlockId,
+}
+
+impl fmt::Display for Edge {
+    fn fmt<W: fmt::Write>(&self, f: &mut fmt::Formatter<W>) -> fmt::Result {
+        let from = self.from.as_short_id();
+        let to = self.to.as_short_id();
+        write!(f, "  \"{from}\" -> \"{to}\"")
+    }
 }
 
 // The shard block that is cached under an id's shard and seqno.
-fn cached_under(cache: Cache, id: BlockId) -> EntryAt {
-    let shard = id_shard(id);
-    let mut i: usize = 0;
-    while i < SHARDS_LIMIT && i < cache.shard_count {
-        let held = cache.shards[i];
-        if same_shard(held.shard, shard) {
-            return entry_at(held.group, id.seqno);
-        }
-        i += 1;
+fn cached_under(cache: &Cache, id: BlockId) -> Option<BlockCacheEntry> {
+    let held = shards(cache).iter().find(|held| held.shard == id.shard)?;
+    let at = entry_at(held.group, id.seqno);
+    if at.found.is_err() {
+        return None;
     }
-    EntryAt {
-        found: Place::Vacant(0),
-        entry: zero_entry(),
-    }
+    Some(at.entry)
 }
 
 // An edge to a shard block, seen from a master of a seqno.
-fn put_reference(
-    cache: Cache,
-    out: &mut [u8],
-    at: usize,
-    from: BlockId,
-    to: BlockId,
+#[derive(Clone, Copy)]
+struct Reference<'a> {
+    cache: &'a Cache,
+    edge: Edge,
     master: u32,
-) -> usize {
-    let a = put_edge(out, at, from, to);
-    let cached = cached_under(cache, to);
-    let found = cached.found;
-    let Place::At(place) = found else {
-        return put_text(out, a, b" [style=dotted];\n");
-    };
-    put_cached(out, a, cached.entry, to, master)
+}
+
+impl fmt::Display for Reference<'_> {
+    fn fmt<W: fmt::Write>(&self, f: &mut fmt::Formatter<W>) -> fmt::Result {
+        let edge = &self.edge;
+        let style = match cached_under(self.cache, edge.to) {
+            None => " [style=dotted]",
+            Some(entry) if entry.block_id != edge.to => {
+                " [style=dashed, color=orange, label=\"another id\"]"
+            }
+            Some(entry) if entry.ref_by_mc_seqno != self.master => {
+                " [style=dashed, color=red, label=foreign]"
+            }
+            Some(_) => "",
+        };
+        writeln!(f, "{edge}{style};")
+    }
 }
 
 // The edges to a shard block's parents.
-fn put_parents(cache: Cache, out: &mut [u8], at: usize, entry: BlockCacheEntry) -> usize {
-    let prev = entry.prev_ids;
-    let ids = prev.ids;
-    let master = entry.ref_by_mc_seqno;
-    if prev.count == 0 {
-        return at;
-    }
-    let a = put_reference(cache, out, at, entry.block_id, ids[0], master);
-    if prev.count == 1 {
-        return a;
-    }
-    put_reference(cache, out, a, entry.block_id, ids[1], master)
+#[derive(Clone, Copy)]
+struct Parents<'a> {
+    cache: &'a Cache,
+    entry: &'a BlockCacheEntry,
 }
 
-// The edge to a master's parent.
-fn put_master_parent(out: &mut [u8], at: usize, entry: BlockCacheEntry) -> usize {
-    let prev = entry.prev_ids;
-    let ids = prev.ids;
-    if prev.count == 0 {
-        return at;
+impl fmt::Display for Parents<'_> {
+    fn fmt<W: fmt::Write>(&self, f: &mut fmt::Formatter<W>) -> fmt::Result {
+        for parent in self.entry.prev_ids.listed() {
+            let reference = Reference {
+                cache: self.cache,
+                edge: Edge {
+                    from: self.entry.block_id,
+                    to: *parent,
+                },
+                master: self.entry.ref_by_mc_seqno,
+            };
+            write!(f, "{reference}")?;
+        }
+        Ok(())
     }
-    let a = put_edge(out, at, entry.block_id, ids[0]);
-    put_text(out, a, b" [color=gray];\n")
 }
 
-// A top item that is not updated does not start an extraction.
-fn put_top(cache: Cache, out: &mut [u8], at: usize, master: BlockId, top: TopBlock) -> usize {
-    if top.updated {
-        return put_reference(cache, out, at, master, top.block_id, master.seqno);
-    }
-    let a = put_edge(out, at, master, top.block_id);
-    put_text(out, a, b" [style=dotted, label=\"not updated\"];\n")
-}
-
-fn put_top_edges(
-    cache: Cache,
-    out: &mut [u8],
-    at: usize,
+// The edge to a top item; one that is not updated does not start an extraction.
+#[derive(Clone, Copy)]
+struct TopEdge<'a> {
+    cache: &'a Cache,
     master: BlockId,
-    tops: TopBlocks,
-) -> usize {
-    let items = tops.items;
-    let mut to = at;
-    let mut i: usize = 0;
-    while i < TOPS_LIMIT && i < tops.count {
-        to = put_top(cache, out, to, master, items[i]);
-        i += 1;
+    top: &'a TopBlock,
+}
+
+impl fmt::Display for TopEdge<'_> {
+    fn fmt<W: fmt::Write>(&self, f: &mut fmt::Formatter<W>) -> fmt::Result {
+        let edge = Edge {
+            from: self.master,
+            to: self.top.block_id,
+        };
+        if !self.top.updated {
+            return writeln!(f, "{edge} [style=dotted, label=\"not updated\"];");
+        }
+        let reference = Reference {
+            cache: self.cache,
+            edge,
+            master: self.master.seqno,
+        };
+        write!(f, "{reference}")
     }
-    to
-}
-
-fn put_master(
-    cache: Cache,
-    out: &mut [u8],
-    at: usize,
-    entry: BlockCacheEntry,
-    tops: TopBlocks,
-) -> usize {
-    let a = put_node(out, at, entry, true);
-    let b = put_master_parent(out, a, entry);
-    put_top_edges(cache, out, b, entry.block_id, tops)
-}
-
-fn put_masters(cache: Cache, out: &mut [u8], at: usize) -> usize {
-    let masters = cache.masters;
-    let group = masters.group;
-    let entries = group.entries;
-    let tops = masters.tops;
-    let mut to = at;
-    let mut i: usize = 0;
-    while i < ENTRIES_LIMIT && i < group.count {
-        to = put_master(cache, out, to, entries[i], tops[i]);
-        i += 1;
-    }
-    to
-}
-
-fn put_nodes(
-    out: &mut [u8],
-    at: usize,
-    entries: [BlockCacheEntry; ENTRIES_LIMIT],
-    count: usize,
-) -> usize {
-    let mut to = at;
-    let mut i: usize = 0;
-    while i < ENTRIES_LIMIT && i < count {
-        to = put_node(out, to, entries[i], false);
-        i += 1;
-    }
-    to
-}
-
-fn put_all_parents(
-    cache: Cache,
-    out: &mut [u8],
-    at: usize,
-    entries: [BlockCacheEntry; ENTRIES_LIMIT],
-    count: usize,
-) -> usize {
-    let mut to = at;
-    let mut i: usize = 0;
-    while i < ENTRIES_LIMIT && i < count {
-        to = put_parents(cache, out, to, entries[i]);
-        i += 1;
-    }
-    to
-}
-
-fn put_cluster(out: &mut [u8], at: usize, shard: ShardGroup) -> usize {
-    let a = put_text(out, at, b"  subgraph \"cluster_");
-    let b = put_shard(out, a, shard.shard);
-    let c = put_text(out, b, b"\" {\n    label=\"shard ");
-    let d = put_shard(out, c, shard.shard);
-    put_text(out, d, b"\";\n")
-}
-
-fn put_group(cache: Cache, out: &mut [u8], at: usize, shard: ShardGroup) -> usize {
-    let group = shard.group;
-    let entries = group.entries;
-    let a = put_cluster(out, at, shard);
-    let b = put_nodes(out, a, entries, group.count);
-    let c = put_text(out, b, b"  }\n");
-    put_all_parents(cache, out, c, entries, group.count)
-}
-
-fn put_groups(cache: Cache, out: &mut [u8], at: usize) -> usize {
-    let shards = cache.shards;
-    let mut to = at;
-    let mut i: usize = 0;
-    while i < SHARDS_LIMIT && i < cache.shard_count {
-        to = put_group(cache, out, to, shards[i]);
-        i += 1;
-    }
-    to
-}
-
-pub fn graph(cache: Cache, out: &mut [u8], at: usize) -> usize {
-    let a = put_text(
-        out,
-        at,
-        b"digraph cache {\n  rankdir=RL;\n  node [shape=box, style=dotted];\n",
-    );
-    let b = put_masters(cache, out, a);
-    let c = put_groups(cache, out, b);
-    put_text(out, c, b"}\n")
 }

@@ -1,11 +1,5 @@
 // The language in short; docs/REPLAY.md has it whole.
-use crate::output::put_text;
-
-pub fn help(out: &mut [u8], at: usize) -> usize {
-    put_text(
-        out,
-        at,
-        b"A line is a command; empty lines and lines that begin with # are skipped.
+pub const HELP: &str = "A line is a command; empty lines and lines that begin with # are skipped.
 new Z                                        an empty cache of zerostate seqno Z
 store_collated ID ref=N prev=IDS top=TOPS anchor=OPT pta=N pay=N
 store_received ID mc=ID prev=IDS top=TOPS anchor=OPT pay=N
@@ -28,6 +22,4 @@ ID is W:PREFIX:SEQNO:ROOT:FILE, KEY its first three parts, SHARD its first two; 
 OPT is - or N; IDS, KEYS and TOPS are - or items with commas between them; a top is REF/ID/0 or REF/ID/1
 Every call may answer 'refused N': 1 the cache is unsound, 2 a seqno is too large, 3 a list is too long, 4 a link is wrong, 5 the reference is below the zerostate,
 6 a received master is not its own reference, 7 the place is taken, 8 the group is full or there are 8 groups, 9 there are 32 ids, 10 the slice is too short, 11 nothing is applied, 12 the master is not cached
-",
-    )
-}
+";

@@ -1,158 +1,103 @@
-// The cache with one of its records replaced, tested in no way.
-use block_records::block_id::{BlockId, zero_id, zero_shard};
+// The groups of a cache: their places, marks and entries.
+use crate::expected::{Expected, Unexpected};
+use crate::scan::{Scanner, Spelled};
+use crate::spell::Shown;
+use block_records::block_id::BlockIdShort;
 use block_records::entry::BlockCacheEntry;
-use block_records::limits::{ENTRIES_LIMIT, IDS_LIMIT, SHARDS_LIMIT};
-use block_records::top_block::TopBlocks;
-use blocks_cache::cache::{Cache, ShardGroup};
-use blocks_cache::master_data::{AppliedRange, MasterData};
-use blocks_group::group::{Boundary, Group, MasterGroup, zero_group, zero_master_group};
-use blocks_group::mark::Mark;
+use block_records::limits::SHARDS_LIMIT;
+use blocks_cache::cache::{Cache, ShardGroup, empty};
+use blocks_group::group::Group;
+use std::fmt;
 
-// The place that stands for the masters beside the shards' places 0 to 7.
-pub const MASTERS: usize = 8;
+// The masters' group, or that of a shard by its place in the cache, 0 to 7.
+#[derive(Clone, Copy, PartialEq, Eq)]
+pub enum Place {
+    Masters,
+    Shard(usize),
+}
 
-pub fn zero_shard_group() -> ShardGroup {
-    ShardGroup {
-        shard: zero_shard(),
-        group: zero_group(),
+impl Spelled for Place {
+    fn read(line: &mut Scanner<'_>) -> Result<Self, Unexpected> {
+        if line.passes(b'm') {
+            return Ok(Place::Masters);
+        }
+        let place = line.number(SHARDS_LIMIT as u64 - 1, Expected::Group)?;
+        Ok(Place::Shard(place as usize))
     }
 }
 
-fn zero_data() -> MasterData {
-    let zero = zero_id();
-    MasterData {
-        ids: [zero; IDS_LIMIT],
-        count: 0,
-        range: AppliedRange::Absent,
+impl fmt::Display for Place {
+    fn fmt<W: fmt::Write>(&self, f: &mut fmt::Formatter<W>) -> fmt::Result {
+        match *self {
+            Place::Masters => write!(f, "m"),
+            Place::Shard(place) => write!(f, "{place}"),
+        }
+    }
+}
+
+// What a group knows beside its entries.
+#[derive(Clone, Copy)]
+pub struct Marks {
+    mark: Option<u32>,
+    boundary: Option<BlockIdShort>,
+}
+
+impl Marks {
+    pub fn of(group: &Group) -> Self {
+        Marks {
+            mark: group.mark,
+            boundary: group.boundary,
+        }
+    }
+
+    pub fn set(self, group: &mut Group) {
+        group.mark = self.mark;
+        group.boundary = self.boundary;
+    }
+}
+
+impl Spelled for Marks {
+    fn read(line: &mut Scanner<'_>) -> Result<Self, Unexpected> {
+        let mark = line.field(" mark=")?;
+        let boundary = line.field(" boundary=")?;
+        Ok(Marks { mark, boundary })
+    }
+}
+
+impl fmt::Display for Marks {
+    fn fmt<W: fmt::Write>(&self, f: &mut fmt::Formatter<W>) -> fmt::Result {
+        let mark = Shown(self.mark);
+        let boundary = Shown(self.boundary);
+        write!(f, " mark={mark} boundary={boundary}")
     }
 }
 
 pub fn zero_cache() -> Cache {
-    let group = zero_shard_group();
-    Cache {
-        zerostate_mc_seqno: 0,
-        masters: zero_master_group(),
-        data: zero_data(),
-        shards: [group; SHARDS_LIMIT],
-        shard_count: 0,
+    empty(0).cache
+}
+
+// The group of a place, if the cache has that place.
+pub fn group_at(cache: &mut Cache, place: Place) -> Option<&mut Group> {
+    match place {
+        Place::Masters => Some(&mut cache.masters.group),
+        Place::Shard(at) => {
+            if at < SHARDS_LIMIT {
+                return Some(&mut cache.shards[at].group);
+            }
+            None
+        }
     }
 }
 
-pub fn with_masters(cache: Cache, masters: MasterGroup) -> Cache {
-    let mut next = cache;
-    next.masters = masters;
-    next
+// The listed entries of a group, of its masters or of a shard.
+pub fn entries(group: &Group) -> &[BlockCacheEntry] {
+    group.entries.get(..group.count).unwrap_or(&group.entries)
 }
 
-pub fn with_data(cache: Cache, data: MasterData) -> Cache {
-    let mut next = cache;
-    next.data = data;
-    next
-}
-
-pub fn with_shards(cache: Cache, shards: [ShardGroup; SHARDS_LIMIT]) -> Cache {
-    let mut next = cache;
-    next.shards = shards;
-    next
-}
-
-// The shard group of a place, 0 to 7; zeros of any other.
-pub fn shard_at(cache: Cache, place: usize) -> ShardGroup {
-    let shards = cache.shards;
-    if place < SHARDS_LIMIT {
-        shards[place]
-    } else {
-        zero_shard_group()
-    }
-}
-
-pub fn with_shard(cache: Cache, place: usize, group: ShardGroup) -> Cache {
-    let mut shards = cache.shards;
-    if place < SHARDS_LIMIT {
-        shards[place] = group;
-    }
-    with_shards(cache, shards)
-}
-
-// The group of a place, or the masters'.
-pub fn group_at(cache: Cache, place: usize) -> Group {
-    if place == MASTERS {
-        let masters = cache.masters;
-        return masters.group;
-    }
-    let shard = shard_at(cache, place);
-    shard.group
-}
-
-fn with_master_group(cache: Cache, group: Group) -> Cache {
-    let mut masters = cache.masters;
-    masters.group = group;
-    with_masters(cache, masters)
-}
-
-fn with_shard_group(cache: Cache, place: usize, group: Group) -> Cache {
-    let mut shard = shard_at(cache, place);
-    shard.group = group;
-    with_shard(cache, place, shard)
-}
-
-pub fn with_group(cache: Cache, place: usize, group: Group) -> Cache {
-    if place == MASTERS {
-        return with_master_group(cache, group);
-    }
-    with_shard_group(cache, place, group)
-}
-
-pub fn with_marks(group: Group, mark: Mark, boundary: Boundary) -> Group {
-    let entries = group.entries;
-    Group {
-        entries,
-        count: group.count,
-        mark,
-        boundary,
-    }
-}
-
-pub fn with_count(group: Group, count: usize) -> Group {
-    let mut next = group;
-    next.count = count;
-    next
-}
-
-// The entry of a place, 0 to 15.
-pub fn with_entry(group: Group, place: usize, entry: BlockCacheEntry) -> Group {
-    let mut entries = group.entries;
-    if place < ENTRIES_LIMIT {
-        entries[place] = entry;
-    }
-    let mut next = group;
-    next.entries = entries;
-    next
-}
-
-// The top items beside the master of a place, 0 to 15.
-pub fn with_tops(cache: Cache, place: usize, tops: TopBlocks) -> Cache {
-    let mut masters = cache.masters;
-    let mut all = masters.tops;
-    if place < ENTRIES_LIMIT {
-        all[place] = tops;
-    }
-    masters.tops = all;
-    with_masters(cache, masters)
-}
-
-// The last collated id of a place, 0 to 31.
-pub fn with_id(data: MasterData, place: usize, id: BlockId) -> MasterData {
-    let mut ids = data.ids;
-    if place < IDS_LIMIT {
-        ids[place] = id;
-    }
-    let mut next = data;
-    next.ids = ids;
-    next
-}
-
-pub fn with_count_and_range(data: MasterData, count: usize, range: AppliedRange) -> MasterData {
-    let ids = data.ids;
-    MasterData { ids, count, range }
+// The listed shards of a cache.
+pub fn shards(cache: &Cache) -> &[ShardGroup] {
+    cache
+        .shards
+        .get(..cache.shard_count)
+        .unwrap_or(&cache.shards)
 }

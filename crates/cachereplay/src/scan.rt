@@ -1,257 +1,256 @@
-// Reading a line from left to right. The first thing that is not as expected ends the reading: from then on nothing moves.
-use crate::output::{plus, signed};
+// Reading a line from left to right.
+ghost use Rattle.std.specs.Prelude.{◌≤◌, IfOk};
 
-// Where the reading stands, and what was expected there and isn't (0 while all is well): the texts are in `expected`.
+use crate::expected::{Expected, Unexpected};
+use block_records::listed::Listed;
+
+// The digits of the largest number of 64 bits.
+const MOST_DIGITS: usize = 20;
+
+// A line, and where its reading stands. Nothing is read after the first thing that is not as expected.
 #[derive(Clone, Copy)]
-pub struct Scan {
-    pub at: usize,
-    pub missing: u8,
+pub struct Scanner<'a> {
+    line: &'a [u8],
+    at: usize,
 }
 
-#[derive(Clone, Copy)]
-pub struct NumberRead {
-    pub value: u64,
-    pub scan: Scan,
+// What a line can spell.
+pub trait Spelled: Copy {
+    fn read(line: &mut Scanner<'_>) -> Result<Self, Unexpected>;
 }
 
-#[derive(Clone, Copy)]
-pub struct SignedRead {
-    pub value: i32,
-    pub scan: Scan,
-}
-
-#[derive(Clone, Copy)]
-pub struct HashRead {
-    pub hash: [u8; 32],
-    pub scan: Scan,
-}
-
-// A digit at the end of a number.
-#[derive(Clone, Copy)]
-struct Appended {
-    value: u64,
-    fits: bool,
-}
-
-pub fn is_good(scan: Scan) -> bool {
-    scan.missing == 0
-}
-
-// Nothing more is read where something was already missing.
-pub fn fail(scan: Scan, missing: u8) -> Scan {
-    if scan.missing == 0 {
-        return Scan {
-            at: scan.at,
-            missing,
-        };
+impl<'a> Scanner<'a> {
+    pub fn new(line: &'a [u8]) -> Self {
+        Scanner { line, at: 0 }
     }
-    scan
-}
 
-pub fn fail_unless(scan: Scan, good: bool, missing: u8) -> Scan {
-    if good {
-        return scan;
-    }
-    fail(scan, missing)
-}
-
-fn advance(scan: Scan, bytes: usize) -> Scan {
-    Scan {
-        at: plus(scan.at, bytes),
-        missing: scan.missing,
-    }
-}
-
-// Zero past the end.
-pub fn byte_at(line: &[u8], at: usize) -> u8 {
-    if at < line.len() { line[at] } else { 0 }
-}
-
-pub fn begins(line: &[u8], at: usize, text: &[u8]) -> bool {
-    let mut same = true;
-    let mut i: usize = 0;
-    while i < text.len() {
-        if byte_at(line, plus(at, i)) != text[i] {
-            same = false;
+    pub fn unexpected(&self, expected: Expected) -> Unexpected {
+        Unexpected {
+            at: self.at,
+            expected,
         }
-        i += 1;
     }
-    same
+
+    fn rest(&self) -> &'a [u8] {
+        self.line.get(self.at..).unwrap_or(&[])
+    }
+
+    fn peek(&self) -> Option<u8> {
+        self.rest().first().copied()
+    }
+
+    fn advance(&mut self, bytes: usize) {
+        self.at = self.at.saturating_add(bytes);
+    }
+
+    // ===== texts =====
+
+    pub fn begins(&self, text: &str) -> bool {
+        self.rest().starts_with(text.as_bytes())
+    }
+
+    // Whether a word stands here. A zero ends one too.
+    pub fn is_word(&self, word: &str) -> bool {
+        match self.rest().strip_prefix(word.as_bytes()) {
+            Some(after) => matches!(after.first(), None | Some(b' ' | 0)),
+            None => false,
+        }
+    }
+
+    // A byte that may stand here, and is passed if it does.
+    pub fn passes(&mut self, byte: u8) -> bool {
+        let stands = self.peek() == Some(byte);
+        if stands {
+            self.advance(1);
+        }
+        stands
+    }
+
+    // The word that stands here and the one behind the space after it, which may be empty.
+    pub fn two_words(&self) -> (&'a str, &'a str) {
+        let rest = self.rest();
+        let first = word(rest);
+        let second = rest
+            .get(first.len()..)
+            .and_then(|after| after.strip_prefix(b" "));
+        (first, second.map_or("", word))
+    }
+
+    // The bytes up to the next space or the line's end are passed.
+    pub fn pass_word(&mut self) {
+        let word = self.rest().iter().take_while(|byte| **byte != b' ').count();
+        self.advance(word);
+    }
+
+    // A text that must stand here.
+    pub fn expect(&mut self, text: &str, expected: Expected) -> Result<(), Unexpected> {
+        self.check(self.begins(text), expected)?;
+        self.advance(text.len());
+        Ok(())
+    }
+
+    pub fn space(&mut self) -> Result<(), Unexpected> {
+        self.expect(" ", Expected::Space)
+    }
+
+    pub fn check(&self, holds: bool, expected: Expected) -> Result<(), Unexpected> {
+        if !holds {
+            return Err(self.unexpected(expected));
+        }
+        Ok(())
+    }
+
+    pub fn has_ended(&self) -> bool {
+        self.line.len() <= self.at
+    }
+
+    pub fn end(&self) -> Result<(), Unexpected> {
+        self.check(self.has_ended(), Expected::End)
+    }
+
+    // ===== numbers =====
+
+    // The digits that a number can have: after a first zero no other is read.
+    fn digits(&self) -> &'a [u8] {
+        let rest = self.rest();
+        let most = if self.begins("0") { 1 } else { MOST_DIGITS };
+        let digits = rest
+            .iter()
+            .take(most)
+            .take_while(|byte| byte.is_ascii_digit())
+            .count();
+        rest.get(..digits).unwrap_or(rest)
+    }
+
+    // A number in decimal, without spare zeros.
+    pub fn number(&mut self, most: u64, expected: Expected) -> Result<u64, Unexpected>
+        ensures { IfOk result (λ number. number ≤ most) }
+    {
+        let digits = self.digits();
+        match decimal(digits) {
+            Some(number) if number <= most => {
+                self.advance(digits.len());
+                Ok(number)
+            }
+            _ => Err(self.unexpected(expected)),
+        }
+    }
+
+    // A number with its sign, of 32 bits.
+    pub fn signed(&mut self, expected: Expected) -> Result<i32, Unexpected> {
+        if !self.passes(b'-') {
+            let number = self.number(i32::MAX as u64, expected)?;
+            return Ok(number as i32);
+        }
+        let number = self.number(i32::MAX as u64 + 1, expected)?;
+        self.check(number != 0, expected)?;
+        Ok((number as u32).wrapping_neg().cast_signed())
+    }
+
+    // Two hexadecimal digits for each byte.
+    pub fn hex<const N: usize>(&mut self, expected: Expected) -> Result<[u8; N], Unexpected> {
+        let start = *self;
+        let mut bytes = [0u8; N];
+        for byte in &mut bytes {
+            let high = self.hex_digit();
+            let low = self.hex_digit();
+            match (high, low) {
+                (Some(high), Some(low)) => *byte = (high << 4) | low,
+                _ => return Err(start.unexpected(expected)),
+            }
+        }
+        Ok(bytes)
+    }
+
+    fn hex_digit(&mut self) -> Option<u8> {
+        let digit = self.peek()?;
+        self.advance(1);
+        hex_value(digit)
+    }
+
+    // ===== values =====
+
+    pub fn read<T: Spelled>(&mut self) -> Result<T, Unexpected> {
+        T::read(self)
+    }
+
+    // A value, with a text before it.
+    pub fn field<T: Spelled>(&mut self, text: &'static str) -> Result<T, Unexpected> {
+        self.expect(text, Expected::Text(text))?;
+        self.read()
+    }
+
+    // The only value of a line, after a space.
+    pub fn only<T: Spelled>(&mut self) -> Result<T, Unexpected> {
+        self.space()?;
+        let value = self.read()?;
+        self.end()?;
+        Ok(value)
+    }
+
+    // The minus of an absent value, which has no digit after it.
+    fn passes_absent(&mut self) -> bool {
+        match self.rest() {
+            [b'-', digit, ..] if digit.is_ascii_digit() => false,
+            [b'-', ..] => {
+                self.advance(1);
+                true
+            }
+            _ => false,
+        }
+    }
+
+    // Items with commas between them; those past the places are only counted.
+    pub fn list<T: Spelled, const N: usize>(
+        &mut self,
+        zero: T,
+    ) -> Result<Listed<T, N>, Unexpected> {
+        let mut list = Listed::empty(zero);
+        if self.passes_absent() {
+            return Ok(list);
+        }
+        for _ in 0..self.line.len() {
+            let item = self.read()?;
+            if list.count < N {
+                list.items[list.count] = item;
+            }
+            list.count = list.count.saturating_add(1);
+            if !self.passes(b',') {
+                break;
+            }
+        }
+        Ok(list)
+    }
 }
 
-// A text that must stand here.
-pub fn expect(line: &[u8], scan: Scan, text: &[u8], missing: u8) -> Scan {
-    if !is_good(scan) {
-        return scan;
-    }
-    if begins(line, scan.at, text) {
-        return advance(scan, text.len());
-    }
-    fail(scan, missing)
-}
-
-// A byte that may stand here.
-pub fn is_next(line: &[u8], scan: Scan, byte: u8) -> bool {
-    is_good(scan) && byte_at(line, scan.at) == byte
-}
-
-// A word that may stand here, with a space or the line's end after it.
-pub fn is_word(line: &[u8], scan: Scan, word: &[u8]) -> bool {
-    if !is_good(scan) {
-        return false;
-    }
-    let after = byte_at(line, plus(scan.at, word.len()));
-    begins(line, scan.at, word) && (after == b' ' || after == 0)
-}
-
-pub fn expect_end(line: &[u8], scan: Scan, missing: u8) -> Scan {
-    fail_unless(scan, line.len() <= scan.at, missing)
-}
-
-fn is_digit(byte: u8) -> bool {
-    48 <= byte && byte <= 57
-}
-
-fn digit_value(byte: u8) -> u64 {
-    if 48 <= byte { (byte - 48) as u64 } else { 0 }
-}
-
-fn append(value: u64, digit: u64) -> Appended {
-    if 1844674407370955161 < value {
-        return Appended { value, fits: false };
-    }
-    let tens = value * 10;
-    if u64::MAX - digit < tens {
-        return Appended { value, fits: false };
-    }
-    Appended {
-        value: tens + digit,
-        fits: true,
+impl<T: Spelled> Spelled for Option<T> {
+    fn read(line: &mut Scanner<'_>) -> Result<Self, Unexpected> {
+        if line.passes_absent() {
+            return Ok(None);
+        }
+        let value = line.read()?;
+        Ok(Some(value))
     }
 }
 
-// A number in decimal, at most `most`. After a first zero no digit is read.
-pub fn read_number(line: &[u8], scan: Scan, most: u64, missing: u8) -> NumberRead {
-    let mut fits = is_good(scan) && is_digit(byte_at(line, scan.at));
-    let mut more = fits;
-    let mut value: u64 = 0;
-    let mut at = scan.at;
-    let mut left: u8 = 20;
-    while 0 < left && more {
-        let next = append(value, digit_value(byte_at(line, at)));
-        fits = fits && next.fits;
-        value = next.value;
-        at = plus(at, 1);
-        more = value != 0 && is_digit(byte_at(line, at));
-        left -= 1;
-    }
-    if fits && value <= most {
-        return NumberRead {
-            value,
-            scan: Scan { at, missing: 0 },
-        };
-    }
-    NumberRead {
-        value: 0,
-        scan: fail(scan, missing),
-    }
+// The bytes up to a space, a zero or the end, if they are text.
+fn word(line: &[u8]) -> &str {
+    let length = line
+        .iter()
+        .take_while(|byte| !matches!(**byte, b' ' | 0))
+        .count();
+    str::from_utf8(line.get(..length).unwrap_or(line)).unwrap_or("")
 }
 
-fn negative_read(line: &[u8], start: Scan, missing: u8) -> SignedRead {
-    let read = read_number(line, advance(start, 1), 2147483648, missing);
-    let scan = read.scan;
-    let n = read.value;
-    if n == 0 {
-        return SignedRead {
-            value: 0,
-            scan: fail(scan, missing),
-        };
-    }
-    SignedRead {
-        value: signed(true, n - 1),
-        scan,
-    }
+fn decimal(digits: &[u8]) -> Option<u64> {
+    str::from_utf8(digits).ok()?.parse::<u64>().ok()
 }
 
-// A number with its sign, of 32 bits.
-pub fn read_signed(line: &[u8], start: Scan, missing: u8) -> SignedRead {
-    if is_next(line, start, b'-') {
-        return negative_read(line, start, missing);
+// The value of a lower-case hexadecimal digit.
+fn hex_value(digit: u8) -> Option<u8> {
+    match digit {
+        b'0'..=b'9' => Some(digit - b'0'),
+        b'a'..=b'f' => Some(digit - b'a' + 10),
+        _ => None,
     }
-    let read = read_number(line, start, 2147483647, missing);
-    let scan = read.scan;
-    SignedRead {
-        value: signed(false, read.value),
-        scan,
-    }
-}
-
-// The value of a hexadecimal digit, or 16.
-fn hex_value(byte: u8) -> u8 {
-    if 48 <= byte && byte <= 57 {
-        return byte - 48;
-    }
-    if 97 <= byte && byte <= 102 {
-        return byte - 87;
-    }
-    16
-}
-
-// 16 hexadecimal digits.
-pub fn read_prefix(line: &[u8], scan: Scan, missing: u8) -> NumberRead {
-    let mut value: u64 = 0;
-    let mut good = is_good(scan);
-    let mut i: usize = 0;
-    while i < 16 {
-        let digit = hex_value(byte_at(line, plus(scan.at, i)));
-        good = good && digit < 16;
-        value = (value << 4) | (digit as u64);
-        i += 1;
-    }
-    if good {
-        return NumberRead {
-            value,
-            scan: advance(scan, 16),
-        };
-    }
-    NumberRead {
-        value: 0,
-        scan: fail(scan, missing),
-    }
-}
-
-// The byte of two hexadecimal digits.
-fn hex_byte(high: u8, low: u8) -> u8 {
-    (high << 4) | low
-}
-
-// 64 hexadecimal digits, from the first byte on.
-pub fn read_hash(line: &[u8], scan: Scan, missing: u8) -> HashRead {
-    let mut hash = [0u8; 32];
-    let mut good = is_good(scan);
-    let mut at = scan.at;
-    let mut i: usize = 0;
-    while i < 32 {
-        let high = hex_value(byte_at(line, at));
-        let low = hex_value(byte_at(line, plus(at, 1)));
-        good = good && high < 16 && low < 16;
-        hash[i] = hex_byte(high, low);
-        at = plus(at, 2);
-        i += 1;
-    }
-    let end = if good {
-        Scan { at, missing: 0 }
-    } else {
-        fail(scan, missing)
-    };
-    HashRead { hash, scan: end }
-}
-
-// Absent: a minus with no digit after it.
-pub fn is_absent(line: &[u8], scan: Scan) -> bool {
-    is_next(line, scan, b'-') && !is_digit(byte_at(line, plus(scan.at, 1)))
-}
-
-pub fn past_byte(scan: Scan) -> Scan {
-    advance(scan, 1)
 }

@@ -1,238 +1,173 @@
 // The spelling of ids, lists and entries: docs/REPLAY.md, The language.
-use crate::output::{put, put_flag, put_hash, put_number, put_prefix, put_signed, put_text};
-use block_records::block_id::{BlockId, BlockIdShort, ShardIdent, key, key_shard};
-use block_records::entry::{BlockCacheEntry, BlockCacheEntryData, CandidateStatus};
-use block_records::limits::{PREV_IDS_LIMIT, TOPS_LIMIT};
-use block_records::store_records::{Anchor, PrevIds};
-use block_records::top_block::{TopBlock, TopBlocks};
-use blocks_cache::master_data::{AppliedRange, LastId};
-use blocks_group::group::Boundary;
-use blocks_group::mark::Mark;
+use block_records::block_id::BlockId;
+use block_records::entry::{BlockCacheEntry, BlockCacheEntryData, CandidateStatus, MasterBlock};
+use block_records::range::AppliedRange;
+use block_records::top_block::{TopBlock, zero_tops};
+use std::fmt;
 
-pub fn put_shard(out: &mut [u8], at: usize, shard: ShardIdent) -> usize {
-    let a = put_signed(out, at, shard.workchain);
-    let b = put(out, a, b':');
-    put_prefix(out, b, shard.prefix)
-}
+// A value as the language spells it.
+#[derive(Clone, Copy)]
+pub struct Shown<T>(pub T);
 
-pub fn put_key(out: &mut [u8], at: usize, short: BlockIdShort) -> usize {
-    let a = put_shard(out, at, key_shard(short));
-    let b = put(out, a, b':');
-    put_number(out, b, short.seqno as u64)
-}
-
-pub fn put_id(out: &mut [u8], at: usize, id: BlockId) -> usize {
-    let root = id.root_hash;
-    let file = id.file_hash;
-    let a = put_key(out, at, key(id));
-    let b = put(out, a, b':');
-    let c = put_hash(out, b, root, 32);
-    let d = put(out, c, b':');
-    put_hash(out, d, file, 32)
-}
-
-// A comma before every item but the first.
-pub fn put_comma(out: &mut [u8], at: usize, item: usize) -> usize {
-    if item == 0 {
-        return at;
-    }
-    put(out, at, b',')
-}
-
-// Both places of a list of previous ids, whatever its count.
-pub fn put_id_places(out: &mut [u8], at: usize, ids: [BlockId; PREV_IDS_LIMIT]) -> usize {
-    let a = put_id(out, at, ids[0]);
-    let b = put(out, a, b',');
-    put_id(out, b, ids[1])
-}
-
-pub fn put_ids(out: &mut [u8], at: usize, prev: PrevIds) -> usize {
-    let ids = prev.ids;
-    if prev.count == 0 {
-        return put(out, at, b'-');
-    }
-    if prev.count == 1 {
-        return put_id(out, at, ids[0]);
-    }
-    put_id_places(out, at, ids)
-}
-
-fn put_top(out: &mut [u8], at: usize, top: TopBlock) -> usize {
-    let a = put_number(out, at, top.ref_by_mc_seqno as u64);
-    let b = put(out, a, b'/');
-    let c = put_id(out, b, top.block_id);
-    let d = put(out, c, b'/');
-    put_flag(out, d, top.updated)
-}
-
-// The first places, 8 at most.
-pub fn put_top_places(
-    out: &mut [u8],
-    at: usize,
-    items: [TopBlock; TOPS_LIMIT],
-    count: usize,
-) -> usize {
-    let mut to = at;
-    let mut i: usize = 0;
-    while i < TOPS_LIMIT && i < count {
-        to = put_comma(out, to, i);
-        to = put_top(out, to, items[i]);
-        i += 1;
-    }
-    to
-}
-
-pub fn put_tops(out: &mut [u8], at: usize, tops: TopBlocks) -> usize {
-    if tops.count == 0 {
-        return put(out, at, b'-');
-    }
-    let items = tops.items;
-    put_top_places(out, at, items, tops.count)
-}
-
-pub fn put_anchor(out: &mut [u8], at: usize, anchor: Anchor) -> usize {
-    match anchor {
-        Anchor::Absent => put(out, at, b'-'),
-        Anchor::At(id) => put_number(out, at, id as u64),
+impl fmt::Display for Shown<bool> {
+    fn fmt<W: fmt::Write>(&self, f: &mut fmt::Formatter<W>) -> fmt::Result {
+        let flag = u8::from(self.0);
+        write!(f, "{flag}")
     }
 }
 
-pub fn put_mark(out: &mut [u8], at: usize, mark: Mark) -> usize {
-    match mark {
-        Mark::Absent => put(out, at, b'-'),
-        Mark::At(seqno) => put_number(out, at, seqno as u64),
+impl fmt::Display for Shown<BlockId> {
+    fn fmt<W: fmt::Write>(&self, f: &mut fmt::Formatter<W>) -> fmt::Result {
+        let id = self.0;
+        write!(f, "{id}")
     }
 }
 
-pub fn put_boundary(out: &mut [u8], at: usize, boundary: Boundary) -> usize {
-    match boundary {
-        Boundary::Absent => put(out, at, b'-'),
-        Boundary::At(short) => put_key(out, at, short),
+impl fmt::Display for Shown<TopBlock> {
+    fn fmt<W: fmt::Write>(&self, f: &mut fmt::Formatter<W>) -> fmt::Result {
+        let TopBlock {
+            ref_by_mc_seqno,
+            block_id,
+            updated,
+        } = self.0;
+        let updated = Shown(updated);
+        write!(f, "{ref_by_mc_seqno}/{block_id}/{updated}")
     }
 }
 
-fn put_ends(out: &mut [u8], at: usize, start: u32, end: u32) -> usize {
-    let a = put_number(out, at, start as u64);
-    let b = put_text(out, a, b"..");
-    put_number(out, b, end as u64)
-}
-
-pub fn put_range(out: &mut [u8], at: usize, range: AppliedRange) -> usize {
-    match range {
-        AppliedRange::Absent => put(out, at, b'-'),
-        AppliedRange::Over(start, end) => put_ends(out, at, start, end),
+impl fmt::Display for Shown<AppliedRange> {
+    fn fmt<W: fmt::Write>(&self, f: &mut fmt::Formatter<W>) -> fmt::Result {
+        let AppliedRange { start, end } = self.0;
+        write!(f, "{start}..{end}")
     }
 }
 
-pub fn put_last_id(out: &mut [u8], at: usize, last: LastId) -> usize {
-    if last.present {
-        return put_id(out, at, last.id);
-    }
-    put(out, at, b'-')
-}
-
-pub fn put_status(out: &mut [u8], at: usize, status: CandidateStatus) -> usize {
-    match status {
-        CandidateStatus::Collated => put_text(out, at, b"Collated"),
-        CandidateStatus::Validated => put_text(out, at, b"Validated"),
-        CandidateStatus::ValidationSkipped => put_text(out, at, b"ValidationSkipped"),
-        CandidateStatus::Synced => put_text(out, at, b"Synced"),
-    }
-}
-
-fn put_collated(
-    out: &mut [u8],
-    at: usize,
-    status: CandidateStatus,
-    received_after: bool,
-    handle: u64,
-) -> usize {
-    let a = put_text(out, at, b" kind=collated status=");
-    let b = put_status(out, a, status);
-    let c = put_text(out, b, b" received_after=");
-    let d = put_flag(out, c, received_after);
-    let e = put_text(out, d, b" handle=");
-    put_number(out, e, handle)
-}
-
-fn put_weight(out: &mut [u8], at: usize, weight: u64, processed_to: u32) -> usize {
-    let a = put_text(out, at, b" weight=");
-    let b = put_number(out, a, weight);
-    let c = put_text(out, b, b" pta=");
-    put_number(out, c, processed_to as u64)
-}
-
-fn put_received(out: &mut [u8], at: usize, collated_after: bool, additional: Anchor) -> usize {
-    let a = put_text(out, at, b" kind=received collated_after=");
-    let b = put_flag(out, a, collated_after);
-    let c = put_text(out, b, b" additional=");
-    put_anchor(out, c, additional)
-}
-
-fn put_kind(out: &mut [u8], at: usize, data: BlockCacheEntryData) -> usize {
-    match data {
-        BlockCacheEntryData::Collated {
-            status,
-            received_after_collation,
-            signatures,
-            total_signature_weight,
-            processed_to_anchor,
-        } => {
-            let a = put_collated(out, at, status, received_after_collation, signatures);
-            put_weight(out, a, total_signature_weight, processed_to_anchor)
+// A minus for an absent value.
+impl<T: fmt::Display> fmt::Display for Shown<Option<T>> {
+    fn fmt<W: fmt::Write>(&self, f: &mut fmt::Formatter<W>) -> fmt::Result {
+        match &self.0 {
+            None => write!(f, "-"),
+            Some(value) => write!(f, "{value}"),
         }
-        BlockCacheEntryData::Received {
-            collated_after_receive,
-            additional_anchor,
-        } => put_received(out, at, collated_after_receive, additional_anchor),
     }
 }
 
-fn put_id_and_reference(out: &mut [u8], at: usize, id: BlockId, reference: u32) -> usize {
-    let a = put_id(out, at, id);
-    let b = put_text(out, a, b" ref=");
-    put_number(out, b, reference as u64)
+// Items with commas between them, or a minus for none.
+impl<T: Copy> fmt::Display for Shown<&[T]>
+where
+    Shown<T>: fmt::Display,
+{
+    fn fmt<W: fmt::Write>(&self, f: &mut fmt::Formatter<W>) -> fmt::Result {
+        let Some((first, others)) = self.0.split_first() else {
+            return write!(f, "-");
+        };
+        let first = Shown(*first);
+        write!(f, "{first}")?;
+        for other in others {
+            let other = Shown(*other);
+            write!(f, ",{other}")?;
+        }
+        Ok(())
+    }
 }
 
-// A row of a peek.
-pub fn put_row(out: &mut [u8], at: usize, id: BlockId, reference: u32, payload: u64) -> usize {
-    let a = put_id_and_reference(out, at, id, reference);
-    put_payload(out, a, payload)
+impl fmt::Display for Shown<CandidateStatus> {
+    fn fmt<W: fmt::Write>(&self, f: &mut fmt::Formatter<W>) -> fmt::Result {
+        match self.0 {
+            CandidateStatus::Collated => write!(f, "Collated"),
+            CandidateStatus::Validated => write!(f, "Validated"),
+            CandidateStatus::ValidationSkipped => write!(f, "ValidationSkipped"),
+            CandidateStatus::Synced => write!(f, "Synced"),
+        }
+    }
 }
 
-fn put_payload(out: &mut [u8], at: usize, payload: u64) -> usize {
-    let a = put_text(out, at, b" pay=");
-    put_number(out, a, payload)
+impl fmt::Display for Shown<BlockCacheEntryData> {
+    fn fmt<W: fmt::Write>(&self, f: &mut fmt::Formatter<W>) -> fmt::Result {
+        match self.0 {
+            BlockCacheEntryData::Collated {
+                status,
+                received_after_collation,
+                signatures,
+                total_signature_weight,
+                processed_to_anchor,
+            } => {
+                let status = Shown(status);
+                let after = Shown(received_after_collation);
+                write!(f, " kind=collated status={status} received_after={after}")?;
+                write!(
+                    f,
+                    " handle={signatures} weight={total_signature_weight} pta={processed_to_anchor}"
+                )
+            }
+            BlockCacheEntryData::Received {
+                collated_after_receive,
+                additional_anchor,
+            } => {
+                let after = Shown(collated_after_receive);
+                let anchor = Shown(additional_anchor);
+                write!(
+                    f,
+                    " kind=received collated_after={after} additional={anchor}"
+                )
+            }
+        }
+    }
 }
 
-// What follows the lists.
-fn put_rest(out: &mut [u8], at: usize, entry: BlockCacheEntry) -> usize {
-    let anchor = entry.top_anchor;
-    let data = entry.data;
-    let a = put_text(out, at, b" anchor=");
-    let b = put_anchor(out, a, anchor);
-    let c = put_payload(out, b, entry.payload);
-    put_kind(out, c, data)
+// What follows the lists of an entry.
+#[derive(Clone, Copy)]
+struct Rest<'a>(&'a BlockCacheEntry);
+
+impl fmt::Display for Rest<'_> {
+    fn fmt<W: fmt::Write>(&self, f: &mut fmt::Formatter<W>) -> fmt::Result {
+        let anchor = Shown(self.0.top_anchor);
+        let payload = self.0.payload;
+        let kind = Shown(self.0.data);
+        write!(f, " anchor={anchor} pay={payload}{kind}")
+    }
 }
 
 // The counted view of an entry with its top items.
-pub fn put_entry(out: &mut [u8], at: usize, entry: BlockCacheEntry, tops: TopBlocks) -> usize {
-    let a = put_id_and_reference(out, at, entry.block_id, entry.ref_by_mc_seqno);
-    let b = put_text(out, a, b" prev=");
-    let c = put_ids(out, b, entry.prev_ids);
-    let d = put_text(out, c, b" top=");
-    let e = put_tops(out, d, tops);
-    put_rest(out, e, entry)
+impl fmt::Display for Shown<&MasterBlock> {
+    fn fmt<W: fmt::Write>(&self, f: &mut fmt::Formatter<W>) -> fmt::Result {
+        let MasterBlock { entry, tops } = self.0;
+        let id = entry.block_id;
+        let reference = entry.ref_by_mc_seqno;
+        let previous = Shown(entry.prev_ids.listed());
+        let tops = Shown(tops.listed());
+        let rest = Rest(entry);
+        write!(f, "{id} ref={reference} prev={previous} top={tops}{rest}")
+    }
+}
+
+// That of a shard block, which has none.
+impl fmt::Display for Shown<&BlockCacheEntry> {
+    fn fmt<W: fmt::Write>(&self, f: &mut fmt::Formatter<W>) -> fmt::Result {
+        let block = MasterBlock {
+            entry: *self.0,
+            tops: zero_tops(),
+        };
+        let shown = Shown(&block);
+        write!(f, "{shown}")
+    }
 }
 
 // An entry as it stands, every place of its previous ids.
-pub fn put_raw_entry(out: &mut [u8], at: usize, entry: BlockCacheEntry) -> usize {
-    let prev = entry.prev_ids;
-    let ids = prev.ids;
-    let a = put_id_and_reference(out, at, entry.block_id, entry.ref_by_mc_seqno);
-    let b = put_text(out, a, b" prev_count=");
-    let c = put_number(out, b, prev.count as u64);
-    let d = put_text(out, c, b" prev=");
-    let e = put_id_places(out, d, ids);
-    put_rest(out, e, entry)
+#[derive(Clone, Copy)]
+pub struct InPlaces<'a>(pub &'a BlockCacheEntry);
+
+impl fmt::Display for InPlaces<'_> {
+    fn fmt<W: fmt::Write>(&self, f: &mut fmt::Formatter<W>) -> fmt::Result {
+        let entry = self.0;
+        let id = entry.block_id;
+        let reference = entry.ref_by_mc_seqno;
+        let count = entry.prev_ids.count;
+        let places = Shown(entry.prev_ids.items.as_slice());
+        let rest = Rest(entry);
+        write!(
+            f,
+            "{id} ref={reference} prev_count={count} prev={places}{rest}"
+        )
+    }
 }

@@ -4,17 +4,17 @@
 
 mod order;
 mod questions;
+mod records;
 mod stored;
 mod tally;
 
-fn main() {
-    let start = tally::none();
-    let ordered = order::cases(start);
-    let asked = questions::cases(ordered);
-    let all = stored::cases(asked);
-    io::write_all(1, b"cases ");
-    io::print_decimal(1, all.ran);
-    io::write_all(1, b" bad ");
-    io::print_decimal(1, all.bad);
-    io::write_all(1, b"\n");
+use crate::tally::Tally;
+
+fn main(rt: HostRuntime) {
+    let mut tally = Tally::default();
+    order::cases(&mut tally);
+    questions::cases(&mut tally);
+    stored::cases(&mut tally);
+    // where the line can't be written, nobody is left to be told
+    let _ = println!(rt; "{tally}");
 }

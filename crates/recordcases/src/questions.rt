@@ -1,36 +1,35 @@
 // Questions 2 to 4 at each limit and one past it: of candidates, received records, cached entries and keys.
-use crate::tally::{Tally, block, no_candidate, no_received};
+use crate::records::{block, no_candidate, no_received, prev, tops};
+use crate::tally::Tally;
 use block_records::block_id::{BlockId, key};
-use block_records::entry::fresh_collated;
-use block_records::limits::{KEYS_LIMIT, TOPS_LIMIT};
+use block_records::entry::{BlockCacheEntry, fresh_collated};
+use block_records::limits::KEYS_LIMIT;
 use block_records::questions::{
-    Refusal, candidate_refusal, held_entry_fits, held_shard_entry_fits, keys_refusal,
-    received_refusal,
+    Refusal, check_candidate, check_keys, check_received, held_entry_fits, held_shard_entry_fits,
 };
-use block_records::store_records::{BlockCandidate, Keys, PrevIds, zero_keys};
-use block_records::top_block::{TopBlock, TopBlocks, zero_tops};
+use block_records::store_records::{BlockCandidate, Keys, PrevIds, ReceivedBlock, zero_keys};
+use block_records::top_block::{TopBlocks, zero_tops};
 
-// The number of a refusal, 0 for none.
-fn number(r: Refusal) -> u32 {
-    match r {
-        Refusal::Absent => 0,
-        Refusal::Number(n) => n,
-    }
-}
+type Answer = Result<(), Refusal>;
 
-fn candidate(id: BlockId, prev: PrevIds, tops: TopBlocks) -> BlockCandidate {
-    let mut c = no_candidate();
-    c.block_id = id;
-    c.ref_by_mc_seqno = 5;
-    c.prev_ids = prev;
-    c.top_blocks = tops;
-    c
-}
+// Every question is answered by yes.
+const FITS: Answer = Ok(());
 
-fn prev(first: BlockId, second: BlockId, count: usize) -> PrevIds {
-    PrevIds {
-        ids: [first, second],
-        count,
+// The largest seqno that fits, and the one past it.
+const LAST: u32 = 4_294_967_294;
+
+const PAST: u32 = 4_294_967_295;
+
+// An id with its previous ids and top items, and what the questions answer.
+type Record = (BlockId, PrevIds, TopBlocks, Answer);
+
+fn candidate(id: BlockId, prev_ids: PrevIds, top_blocks: TopBlocks) -> BlockCandidate {
+    BlockCandidate {
+        block_id: id,
+        ref_by_mc_seqno: 5,
+        prev_ids,
+        top_blocks,
+        ..no_candidate()
     }
 }
 
@@ -39,178 +38,173 @@ fn no_prev() -> PrevIds {
     prev(id, id, 0)
 }
 
-// The same item in every place.
-fn tops(reference: u32, id: BlockId, count: usize) -> TopBlocks {
-    let item = TopBlock {
-        ref_by_mc_seqno: reference,
-        block_id: id,
-        updated: true,
-    };
-    TopBlocks {
-        items: [item; TOPS_LIMIT],
-        count,
+// An entry as the candidate leaves it, but with its previous ids as they were given.
+fn entry(id: BlockId, prev_ids: PrevIds, top_blocks: TopBlocks) -> BlockCacheEntry {
+    BlockCacheEntry {
+        prev_ids,
+        ..fresh_collated(candidate(id, prev_ids, top_blocks))
     }
 }
 
-// The first refusal of a candidate, and the same asked of a received record and of a cached entry.
-fn asked(t: Tally, id: BlockId, p: PrevIds, ts: TopBlocks, expected: u32) -> Tally {
-    let c = candidate(id, p, ts);
-    let mut r = no_received();
-    r.block_id = id;
-    r.ref_block_id = block(-1, 5);
-    r.prev_ids = p;
-    r.top_blocks = ts;
-    let mut e = fresh_collated(c);
-    e.prev_ids = p;
-    let fits = expected == 0;
-    let mut out = t;
-    out = out.expect(number(candidate_refusal(c)) == expected);
-    out = out.expect(number(received_refusal(r)) == expected);
-    out = out.expect(held_entry_fits(e, ts) == fits);
-    out
+// What is answered of a candidate, and the same asked of a received record and of a cached entry.
+fn asked(tally: &mut Tally, records: &[Record]) {
+    for (id, prev_ids, top_blocks, expected) in records {
+        let received = ReceivedBlock {
+            block_id: *id,
+            ref_block_id: block(-1, 5),
+            prev_ids: *prev_ids,
+            top_blocks: *top_blocks,
+            ..no_received()
+        };
+        let held = entry(*id, *prev_ids, *top_blocks);
+        tally.holds(check_candidate(candidate(*id, *prev_ids, *top_blocks)) == *expected);
+        tally.holds(check_received(received) == *expected);
+        tally.holds(held_entry_fits(held, *top_blocks) == expected.is_ok());
+    }
 }
 
-fn seqnos(t: Tally) -> Tally {
+fn seqnos(tally: &mut Tally) {
+    let refused = Err(Refusal::SeqnoLimit);
     let none = no_prev();
     let no_tops = zero_tops();
-    let last = block(-1, 4_294_967_294);
-    let past = block(-1, 4_294_967_295);
-    let shard_past = block(0, 4_294_967_295);
+    let last = block(-1, LAST);
+    let past = block(-1, PAST);
+    let shard_past = block(0, PAST);
     let shard = block(0, 1);
     let low = block(-1, 1);
     let m = block(-1, 5);
-    let mut out = t;
-    out = asked(out, last, none, no_tops, 0);
-    out = asked(out, past, none, no_tops, 2);
-    out = asked(out, m, prev(past, low, 1), no_tops, 2);
-    out = asked(out, m, prev(low, past, 2), no_tops, 2);
-    out = asked(out, m, prev(low, past, 1), no_tops, 0);
-    out = asked(out, m, prev(past, past, 0), no_tops, 0);
-    out = asked(out, m, none, tops(4_294_967_294, shard, 1), 0);
-    out = asked(out, m, none, tops(4_294_967_295, shard, 1), 2);
-    out = asked(out, m, none, tops(5, shard_past, 8), 2);
-    out = asked(out, m, none, tops(4_294_967_295, shard_past, 0), 0);
-    out
+    asked(
+        tally,
+        &[
+            (last, none, no_tops, FITS),
+            (past, none, no_tops, refused),
+            (m, prev(past, low, 1), no_tops, refused),
+            (m, prev(low, past, 2), no_tops, refused),
+            (m, prev(low, past, 1), no_tops, FITS),
+            (m, prev(past, past, 0), no_tops, FITS),
+            (m, none, tops(LAST, shard, 1), FITS),
+            (m, none, tops(PAST, shard, 1), refused),
+            (m, none, tops(5, shard_past, 8), refused),
+            (m, none, tops(PAST, shard_past, 0), FITS),
+        ],
+    );
 }
 
 // The reference seqno of a candidate and of a received record.
-fn references(t: Tally) -> Tally {
-    let mut c = no_candidate();
-    c.ref_by_mc_seqno = 4_294_967_294;
-    let mut r = no_received();
-    r.ref_block_id = block(-1, 4_294_967_294);
-    let mut out = t;
-    out = out.expect(number(candidate_refusal(c)) == 0);
-    out = out.expect(number(received_refusal(r)) == 0);
-    c.ref_by_mc_seqno = 4_294_967_295;
-    r.ref_block_id = block(-1, 4_294_967_295);
-    out = out.expect(number(candidate_refusal(c)) == 2);
-    out = out.expect(number(received_refusal(r)) == 2);
-    out
+fn references(tally: &mut Tally) {
+    for (seqno, expected) in [(LAST, FITS), (PAST, Err(Refusal::SeqnoLimit))] {
+        let candidate = BlockCandidate {
+            ref_by_mc_seqno: seqno,
+            ..no_candidate()
+        };
+        let received = ReceivedBlock {
+            ref_block_id: block(-1, seqno),
+            ..no_received()
+        };
+        tally.holds(check_candidate(candidate) == expected);
+        tally.holds(check_received(received) == expected);
+    }
 }
 
 // Counts at their capacity and past it. A seqno that doesn't fit is found first, also where the count is past the capacity.
-fn counts(t: Tally) -> Tally {
+fn counts(tally: &mut Tally) {
+    let refused = Err(Refusal::TooMany);
+    let seqno_first = Err(Refusal::SeqnoLimit);
     let none = no_prev();
     let no_tops = zero_tops();
     let low = block(-1, 1);
-    let past = block(-1, 4_294_967_295);
+    let past = block(-1, PAST);
     let shard = block(0, 1);
     let m = block(-1, 5);
     let s = block(0, 5);
-    let mut out = t;
-    out = asked(out, m, prev(low, low, 2), no_tops, 0);
-    out = asked(out, m, prev(low, low, 3), no_tops, 3);
-    out = asked(out, m, prev(low, past, 3), no_tops, 2);
-    out = asked(out, m, prev(m, m, 3), no_tops, 3);
-    out = asked(
-        out,
-        m,
-        prev(low, low, 18_446_744_073_709_551_615),
-        no_tops,
-        3,
+    asked(
+        tally,
+        &[
+            (m, prev(low, low, 2), no_tops, FITS),
+            (m, prev(low, low, 3), no_tops, refused),
+            (m, prev(low, past, 3), no_tops, seqno_first),
+            (m, prev(m, m, 3), no_tops, refused),
+            (m, prev(low, low, usize::MAX), no_tops, refused),
+            (m, none, tops(5, shard, 8), FITS),
+            (m, none, tops(5, shard, 9), refused),
+            (m, none, tops(PAST, shard, 9), seqno_first),
+            (s, none, no_tops, FITS),
+            (s, none, tops(5, shard, 1), refused),
+        ],
     );
-    out = asked(out, m, none, tops(5, shard, 8), 0);
-    out = asked(out, m, none, tops(5, shard, 9), 3);
-    out = asked(out, m, none, tops(4_294_967_295, shard, 9), 2);
-    out = asked(out, s, none, no_tops, 0);
-    out = asked(out, s, none, tops(5, shard, 1), 3);
-    out
 }
 
-fn links(t: Tally) -> Tally {
+fn links(tally: &mut Tally) {
+    let refused = Err(Refusal::WrongLink);
     let none = no_prev();
     let no_tops = zero_tops();
     let m4 = block(-1, 4);
     let m = block(-1, 5);
     let s4 = block(0, 4);
     let s = block(0, 5);
-    let mut out = t;
-    out = asked(out, m, prev(m4, m4, 1), no_tops, 0);
-    out = asked(out, m, prev(m, m4, 1), no_tops, 4);
-    out = asked(out, m, prev(m4, m, 2), no_tops, 4);
-    out = asked(out, m, prev(m4, m, 1), no_tops, 0);
-    out = asked(out, m, prev(s4, m4, 1), no_tops, 4);
-    out = asked(out, s, prev(m4, m4, 1), no_tops, 4);
-    out = asked(out, s, prev(s4, block(1, 4), 2), no_tops, 0);
-    out = asked(out, m, none, tops(5, m4, 1), 4);
-    out = asked(out, m, none, tops(5, block(-2, 4), 8), 0);
-    out = asked(out, m, none, tops(5, block(2_147_483_647, 4), 8), 0);
-    out
+    asked(
+        tally,
+        &[
+            (m, prev(m4, m4, 1), no_tops, FITS),
+            (m, prev(m, m4, 1), no_tops, refused),
+            (m, prev(m4, m, 2), no_tops, refused),
+            (m, prev(m4, m, 1), no_tops, FITS),
+            (m, prev(s4, m4, 1), no_tops, refused),
+            (s, prev(m4, m4, 1), no_tops, refused),
+            (s, prev(s4, block(1, 4), 2), no_tops, FITS),
+            (m, none, tops(5, m4, 1), refused),
+            (m, none, tops(5, block(-2, 4), 8), FITS),
+            (m, none, tops(5, block(i32::MAX, 4), 8), FITS),
+        ],
+    );
 }
 
 // A shard's entry is asked the same with no top items beside it.
-fn shard_entry(t: Tally, id: BlockId, p: PrevIds, expected: bool) -> Tally {
-    let none = zero_tops();
-    let mut e = fresh_collated(candidate(id, p, none));
-    e.prev_ids = p;
-    let mut out = t;
-    out = out.expect(held_shard_entry_fits(e) == expected);
-    out = out.expect(held_entry_fits(e, none) == expected);
-    out
-}
-
-fn shard_entries(t: Tally) -> Tally {
+fn shard_entries(tally: &mut Tally) {
     let s = block(0, 5);
     let s4 = block(0, 4);
-    let past = block(0, 4_294_967_295);
-    let mut out = t;
-    out = shard_entry(out, s, prev(s4, s4, 2), true);
-    out = shard_entry(out, s, prev(s4, s4, 3), false);
-    out = shard_entry(out, s, prev(s4, s, 2), false);
-    out = shard_entry(out, s, prev(s4, s, 1), true);
-    out = shard_entry(out, past, no_prev(), false);
-    out
+    let past = block(0, PAST);
+    let entries = [
+        (s, prev(s4, s4, 2), true),
+        (s, prev(s4, s4, 3), false),
+        (s, prev(s4, s, 2), false),
+        (s, prev(s4, s, 1), true),
+        (past, no_prev(), false),
+    ];
+    for (id, prev_ids, fits) in entries {
+        let none = zero_tops();
+        let held = entry(id, prev_ids, none);
+        tally.holds(held_shard_entry_fits(held) == fits);
+        tally.holds(held_entry_fits(held, none) == fits);
+    }
 }
 
 // As many keys as the count says, the last place holding another.
 fn keys(seqno: u32, last: u32, count: usize) -> Keys {
-    let mut out = zero_keys();
-    let k = key(block(0, seqno));
-    let mut all = [k; KEYS_LIMIT];
-    all[8] = key(block(-1, last));
-    out.keys = all;
-    out.count = count;
-    out
+    let mut items = [key(block(0, seqno)); KEYS_LIMIT];
+    items[8] = key(block(-1, last));
+    Keys { count, items }
 }
 
-fn key_lists(t: Tally) -> Tally {
-    let mut out = t;
-    out = out.expect(number(keys_refusal(zero_keys())) == 0);
-    out = out.expect(number(keys_refusal(keys(1, 4_294_967_294, 9))) == 0);
-    out = out.expect(number(keys_refusal(keys(1, 4_294_967_295, 9))) == 2);
-    out = out.expect(number(keys_refusal(keys(1, 4_294_967_295, 8))) == 0);
-    out = out.expect(number(keys_refusal(keys(1, 1, 10))) == 3);
-    out = out.expect(number(keys_refusal(keys(1, 4_294_967_295, 10))) == 2);
-    out = out.expect(number(keys_refusal(keys(4_294_967_295, 1, 1))) == 2);
-    out
+fn key_lists(tally: &mut Tally) {
+    let past = Err(Refusal::SeqnoLimit);
+    let lists = [
+        (zero_keys(), FITS),
+        (keys(1, LAST, 9), FITS),
+        (keys(1, PAST, 9), past),
+        (keys(1, PAST, 8), FITS),
+        (keys(1, 1, 10), Err(Refusal::TooMany)),
+        (keys(1, PAST, 10), past),
+        (keys(PAST, 1, 1), past),
+    ];
+    tally.each(&lists, |(keys, expected)| check_keys(*keys) == *expected);
 }
 
-pub fn cases(t: Tally) -> Tally {
-    let a = seqnos(t);
-    let b = references(a);
-    let c = counts(b);
-    let d = links(c);
-    let e = shard_entries(d);
-    key_lists(e)
+pub fn cases(tally: &mut Tally) {
+    seqnos(tally);
+    references(tally);
+    counts(tally);
+    links(tally);
+    shard_entries(tally);
+    key_lists(tally);
 }

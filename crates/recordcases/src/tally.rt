@@ -1,70 +1,42 @@
-// How many cases ran, and how many were wrong; and the records that the cases are made of.
-use block_records::block_id::{BlockId, zero_id};
-use block_records::store_records::{Anchor, BlockCandidate, ReceivedBlock, zero_prev_ids};
-use block_records::top_block::zero_tops;
+// How many cases ran, and how many were wrong.
+use std::fmt;
 
-#[derive(Clone, Copy)]
+#[derive(Clone, Copy, Default)]
 pub struct Tally {
-    pub ran: u64,
-    pub bad: u64,
-}
-
-pub fn none() -> Tally {
-    Tally { ran: 0, bad: 0 }
+    ran: u64,
+    bad: u64,
 }
 
 impl Tally {
-    // One case more. The counts stop long before they could wrap.
-    pub fn expect(self, ok: bool) -> Tally {
+    // One case more.
+    pub fn holds(&mut self, case: bool) {
+        self.ran = self.ran.saturating_add(1);
+        if !case {
+            self.bad = self.bad.saturating_add(1);
+        }
+    }
+
+    // A case for each of these.
+    pub fn all(&mut self, cases: &[bool]) {
+        for case in cases {
+            self.holds(*case);
+        }
+    }
+
+    // A case for each row of a table.
+    pub fn each<Row, F: Fn(&Row) -> bool>(&mut self, rows: &[Row], case: F)
+        requires { F.IsAlwaysCallable case }
+    {
+        for row in rows {
+            self.holds(case(row));
+        }
+    }
+}
+
+impl fmt::Display for Tally {
+    fn fmt<W: fmt::Write>(&self, f: &mut fmt::Formatter<W>) -> fmt::Result {
         let ran = self.ran;
         let bad = self.bad;
-        if 1_000_000 <= ran {
-            return self;
-        }
-        if 1_000_000 <= bad {
-            return self;
-        }
-        if ok {
-            Tally { ran: ran + 1, bad }
-        } else {
-            Tally {
-                ran: ran + 1,
-                bad: bad + 1,
-            }
-        }
-    }
-}
-
-// An id whose hashes are zeros.
-pub fn block(workchain: i32, seqno: u32) -> BlockId {
-    let mut id = zero_id();
-    id.workchain = workchain;
-    id.prefix = 0x8000_0000_0000_0000;
-    id.seqno = seqno;
-    id
-}
-
-// A candidate of zeros.
-pub fn no_candidate() -> BlockCandidate {
-    BlockCandidate {
-        block_id: zero_id(),
-        ref_by_mc_seqno: 0,
-        prev_ids: zero_prev_ids(),
-        top_blocks: zero_tops(),
-        top_anchor: Anchor::Absent,
-        processed_to_anchor: 0,
-        payload: 0,
-    }
-}
-
-// A received record of zeros.
-pub fn no_received() -> ReceivedBlock {
-    ReceivedBlock {
-        block_id: zero_id(),
-        ref_block_id: zero_id(),
-        prev_ids: zero_prev_ids(),
-        top_blocks: zero_tops(),
-        top_anchor: Anchor::Absent,
-        payload: 0,
+        write!(f, "cases {ran} bad {bad}")
     }
 }

@@ -1,234 +1,207 @@
 // The cache as a graph for Graphviz; its legend says what the boxes and edges mean. A block is looked up by its id's shard and seqno, as the calls do it.
-use block_records::block_id::{BlockId, id_shard, key, same_id, same_shard};
-use block_records::entry::{BlockCacheEntry, held_received, zero_entry};
-use block_records::limits::{ENTRIES_LIMIT, PREV_IDS_LIMIT, SHARDS_LIMIT, TOPS_LIMIT};
-use block_records::place::Place;
-use block_records::top_block::{TopBlock, TopBlocks};
+use block_records::block_id::BlockId;
+use block_records::entry::{BlockCacheEntry, MasterBlock, held_received};
+use block_records::top_block::TopBlock;
 use blocks_cache::cache::{Cache, ShardGroup};
-use blocks_group::group::{EntryAt, Group, entry_at};
-use replay_text::ids::{put_key, put_shard};
-use replay_text::output::{put, put_hash, put_labelled, put_text};
+use blocks_group::group::entry_at;
+use std::fmt;
+
+const HEAD: &str = "digraph cache {
+  rankdir=RL;
+  node [shape=box, style=dotted];
+  legend [shape=note, style=solid, label=\"bold box: a master block\\lbox: a shard block, in the box of its shard\\ldotted box: not cached\\lgray edge: to the master before\\lblack edge: to a parent, or to a top block of a master\\lred dashed edge: to a foreign block, for another master\\lorange dashed edge: a block of another id is cached there\\lgray dashed edge: a top block that is not updated\\l\"];
+";
+
+#[derive(Clone, Copy)]
+pub struct Graph<'a>(pub &'a Cache);
 
 // ===== blocks =====
 
-// A text, and the name of a block's box.
-fn put_name(out: &mut [u8], at: usize, text: &[u8], id: BlockId) -> usize {
-    let a = put_text(out, at, text);
-    let b = put_key(out, a, key(id));
-    put(out, b, b'"')
+// A block's box. It says the key, the root hash's first bytes, and the master that the block is for.
+#[derive(Clone, Copy)]
+struct Node<'a> {
+    entry: &'a BlockCacheEntry,
+    style: &'static str,
 }
 
-// What a box says: the key, the root hash's first bytes, and the master that the block is for.
-fn put_label(out: &mut [u8], at: usize, entry: BlockCacheEntry) -> usize {
-    let id = entry.block_id;
-    let root = id.root_hash;
-    let a = put_key(out, at, key(id));
-    let b = put_text(out, a, b"\\nroot ");
-    let c = put_hash(out, b, root, 4);
-    put_labelled(out, c, b"\\nfor master ", entry.ref_by_mc_seqno as u64)
-}
-
-fn put_kind(out: &mut [u8], at: usize, entry: BlockCacheEntry) -> usize {
-    if held_received(entry) {
-        return put_text(out, at, b"\\nreceived\", style=");
+impl fmt::Display for Node<'_> {
+    fn fmt<W: fmt::Write>(&self, f: &mut fmt::Formatter<W>) -> fmt::Result {
+        let entry = self.entry;
+        let key = entry.block_id.as_short_id();
+        let [a, b, c, d, ..] = entry.block_id.root_hash;
+        let root = u32::from_be_bytes([a, b, c, d]);
+        let master = entry.ref_by_mc_seqno;
+        let kind = if held_received(*entry) {
+            "received"
+        } else {
+            "collated"
+        };
+        let style = self.style;
+        write!(f, "    \"{key}\" [label=\"{key}\\nroot {root:08x}")?;
+        writeln!(f, "\\nfor master {master}\\n{kind}\", style={style}];")
     }
-    put_text(out, at, b"\\ncollated\", style=")
-}
-
-fn put_node(out: &mut [u8], at: usize, entry: BlockCacheEntry, style: &[u8]) -> usize {
-    let a = put_name(out, at, b"    \"", entry.block_id);
-    let b = put_text(out, a, b" [label=\"");
-    let c = put_label(out, b, entry);
-    let d = put_kind(out, c, entry);
-    put_text(out, d, style)
 }
 
 // ===== edges =====
 
-fn put_edge(out: &mut [u8], at: usize, from: BlockId, to: BlockId) -> usize {
-    let a = put_name(out, at, b"  \"", from);
-    put_name(out, a, b" -> \"", to)
+#[derive(Clone, Copy)]
+struct Edge {
+    from: BlockId,
+    to: BlockId,
+    style: &'static str,
+}
+
+impl fmt::Display for Edge {
+    fn fmt<W: fmt::Write>(&self, f: &mut fmt::Formatter<W>) -> fmt::Result {
+        let from = self.from.as_short_id();
+        let to = self.to.as_short_id();
+        let style = self.style;
+        writeln!(f, "  \"{from}\" -> \"{to}\"{style};")
+    }
 }
 
 // The shard block that is cached under an id's shard and seqno.
-fn cached_under(cache: Cache, id: BlockId) -> EntryAt {
-    let shard = id_shard(id);
-    let mut i: usize = 0;
-    while i < SHARDS_LIMIT && i < cache.shard_count {
-        let held = cache.shards[i];
-        if same_shard(held.shard, shard) {
-            return entry_at(held.group, id.seqno);
+fn cached_under(cache: &Cache, id: BlockId) -> Option<BlockCacheEntry> {
+    for held in cache.shards.iter().take(cache.shard_count) {
+        if held.shard == id.shard {
+            let cached = entry_at(held.group, id.seqno);
+            return cached.found.ok().map(|_| cached.entry);
         }
-        i += 1;
     }
-    EntryAt {
-        found: Place::Vacant(0),
-        entry: zero_entry(),
+    None
+}
+
+// How the edge to a shard block looks, seen from a master of a seqno.
+fn edge_style(cache: &Cache, to: BlockId, master: u32) -> &'static str {
+    match cached_under(cache, to) {
+        None => " [style=dotted]",
+        Some(entry) if entry.block_id != to => " [style=dashed, color=orange]",
+        Some(entry) if entry.ref_by_mc_seqno != master => " [style=dashed, color=red]",
+        Some(_) => "",
     }
 }
 
-// How the edge to a cached block looks, seen from a master of a seqno.
-fn put_cached(
-    out: &mut [u8],
-    at: usize,
-    entry: BlockCacheEntry,
-    id: BlockId,
-    master: u32,
-) -> usize {
-    if !same_id(entry.block_id, id) {
-        return put_text(out, at, b" [style=dashed, color=orange];\n");
+fn print_parents<W: fmt::Write>(
+    f: &mut fmt::Formatter<W>,
+    cache: &Cache,
+    entry: &BlockCacheEntry,
+) -> fmt::Result {
+    let from = entry.block_id;
+    for parent in entry.prev_ids.listed() {
+        let to = *parent;
+        let style = edge_style(cache, to, entry.ref_by_mc_seqno);
+        let edge = Edge { from, to, style };
+        write!(f, "{edge}")?;
     }
-    if entry.ref_by_mc_seqno != master {
-        return put_text(out, at, b" [style=dashed, color=red];\n");
-    }
-    put_text(out, at, b";\n")
-}
-
-// An edge to a shard block.
-fn put_reference(
-    out: &mut [u8],
-    at: usize,
-    cache: Cache,
-    from: BlockId,
-    to: BlockId,
-    master: u32,
-) -> usize {
-    let a = put_edge(out, at, from, to);
-    let cached = cached_under(cache, to);
-    let found = cached.found;
-    let Place::At(place) = found else {
-        return put_text(out, a, b" [style=dotted];\n");
-    };
-    put_cached(out, a, cached.entry, to, master)
-}
-
-// The edges to a shard block's parents.
-fn put_parents(out: &mut [u8], at: usize, cache: Cache, entry: BlockCacheEntry) -> usize {
-    let prev = entry.prev_ids;
-    let mut to = at;
-    let mut i: usize = 0;
-    while i < PREV_IDS_LIMIT && i < prev.count {
-        to = put_reference(
-            out,
-            to,
-            cache,
-            entry.block_id,
-            prev.ids[i],
-            entry.ref_by_mc_seqno,
-        );
-        i += 1;
-    }
-    to
+    Ok(())
 }
 
 // The edge to a master's parent.
-fn put_master_parent(out: &mut [u8], at: usize, entry: BlockCacheEntry) -> usize {
-    let prev = entry.prev_ids;
-    if prev.count == 0 {
-        return at;
+fn print_master_parent<W: fmt::Write>(
+    f: &mut fmt::Formatter<W>,
+    entry: &BlockCacheEntry,
+) -> fmt::Result {
+    let from = entry.block_id;
+    let style = " [color=gray]";
+    match entry.prev_ids.listed() {
+        [] => Ok(()),
+        [parent, ..] => {
+            let to = *parent;
+            let edge = Edge { from, to, style };
+            write!(f, "{edge}")
+        }
     }
-    let a = put_edge(out, at, entry.block_id, prev.ids[0]);
-    put_text(out, a, b" [color=gray];\n")
 }
 
 // A top item that is not updated does not start an extraction.
-fn put_top(out: &mut [u8], at: usize, cache: Cache, master: BlockId, top: TopBlock) -> usize {
-    if top.updated {
-        return put_reference(out, at, cache, master, top.block_id, master.seqno);
-    }
-    let a = put_edge(out, at, master, top.block_id);
-    put_text(out, a, b" [style=dashed, color=gray];\n")
-}
-
-fn put_tops(out: &mut [u8], at: usize, cache: Cache, master: BlockId, tops: TopBlocks) -> usize {
-    let mut to = at;
-    let mut i: usize = 0;
-    while i < TOPS_LIMIT && i < tops.count {
-        to = put_top(out, to, cache, master, tops.items[i]);
-        i += 1;
-    }
-    to
+fn print_top<W: fmt::Write>(
+    f: &mut fmt::Formatter<W>,
+    cache: &Cache,
+    from: BlockId,
+    top: &TopBlock,
+) -> fmt::Result {
+    let to = top.block_id;
+    let style = if top.updated {
+        edge_style(cache, to, from.seqno)
+    } else {
+        " [style=dashed, color=gray]"
+    };
+    let edge = Edge { from, to, style };
+    write!(f, "{edge}")
 }
 
 // ===== groups =====
 
-fn put_master(
-    out: &mut [u8],
-    at: usize,
-    cache: Cache,
-    entry: BlockCacheEntry,
-    tops: TopBlocks,
-) -> usize {
-    let a = put_node(out, at, entry, b"bold];\n");
-    let b = put_master_parent(out, a, entry);
-    put_tops(out, b, cache, entry.block_id, tops)
-}
-
-fn put_masters(out: &mut [u8], at: usize, cache: Cache) -> usize {
-    let masters = cache.masters;
-    let group = masters.group;
-    let mut to = at;
-    let mut i: usize = 0;
-    while i < ENTRIES_LIMIT && i < group.count {
-        to = put_master(out, to, cache, group.entries[i], masters.tops[i]);
-        i += 1;
+fn print_master<W: fmt::Write>(
+    f: &mut fmt::Formatter<W>,
+    cache: &Cache,
+    block: &MasterBlock,
+) -> fmt::Result {
+    let entry = &block.entry;
+    let node = Node {
+        entry,
+        style: "bold",
+    };
+    write!(f, "{node}")?;
+    print_master_parent(f, entry)?;
+    for top in block.tops.listed() {
+        print_top(f, cache, entry.block_id, top)?;
     }
-    to
+    Ok(())
 }
 
-fn put_nodes(out: &mut [u8], at: usize, group: Group) -> usize {
-    let mut to = at;
-    let mut i: usize = 0;
-    while i < ENTRIES_LIMIT && i < group.count {
-        to = put_node(out, to, group.entries[i], b"solid];\n");
-        i += 1;
+fn print_masters<W: fmt::Write>(f: &mut fmt::Formatter<W>, cache: &Cache) -> fmt::Result {
+    let group = &cache.masters.group;
+    let blocks = group.entries.iter().zip(cache.masters.tops.iter());
+    for (entry, tops) in blocks.take(group.count) {
+        let block = MasterBlock {
+            entry: *entry,
+            tops: *tops,
+        };
+        print_master(f, cache, &block)?;
     }
-    to
+    Ok(())
 }
 
-fn put_all_parents(out: &mut [u8], at: usize, cache: Cache, group: Group) -> usize {
-    let mut to = at;
-    let mut i: usize = 0;
-    while i < ENTRIES_LIMIT && i < group.count {
-        to = put_parents(out, to, cache, group.entries[i]);
-        i += 1;
+fn print_nodes<W: fmt::Write>(
+    f: &mut fmt::Formatter<W>,
+    entries: &[BlockCacheEntry],
+    count: usize,
+) -> fmt::Result {
+    let style = "solid";
+    for entry in entries.iter().take(count) {
+        let node = Node { entry, style };
+        write!(f, "{node}")?;
     }
-    to
+    Ok(())
 }
 
-// A shard's box.
-fn put_group(out: &mut [u8], at: usize, cache: Cache, held: ShardGroup) -> usize {
-    let a = put_text(out, at, b"  subgraph \"cluster_");
-    let b = put_shard(out, a, held.shard);
-    let c = put_text(out, b, b"\" {\n    label=\"shard ");
-    let d = put_shard(out, c, held.shard);
-    let e = put_text(out, d, b"\";\n");
-    let f = put_nodes(out, e, held.group);
-    let g = put_text(out, f, b"  }\n");
-    put_all_parents(out, g, cache, held.group)
-}
-
-fn put_groups(out: &mut [u8], at: usize, cache: Cache) -> usize {
-    let mut to = at;
-    let mut i: usize = 0;
-    while i < SHARDS_LIMIT && i < cache.shard_count {
-        to = put_group(out, to, cache, cache.shards[i]);
-        i += 1;
+// A shard's box, and the edges from its blocks.
+fn print_group<W: fmt::Write>(
+    f: &mut fmt::Formatter<W>,
+    cache: &Cache,
+    held: &ShardGroup,
+) -> fmt::Result {
+    let shard = held.shard;
+    let group = &held.group;
+    writeln!(f, "  subgraph \"cluster_{shard}\" {{")?;
+    writeln!(f, "    label=\"shard {shard}\";")?;
+    print_nodes(f, &group.entries, group.count)?;
+    writeln!(f, "  }}")?;
+    for entry in group.entries.iter().take(group.count) {
+        print_parents(f, cache, entry)?;
     }
-    to
+    Ok(())
 }
 
-pub fn graph(out: &mut [u8], at: usize, cache: Cache) -> usize {
-    let a = put_text(
-        out,
-        at,
-        b"digraph cache {
-  rankdir=RL;
-  node [shape=box, style=dotted];
-  legend [shape=note, style=solid, label=\"bold box: a master block\\lbox: a shard block, in the box of its shard\\ldotted box: not cached\\lgray edge: to the master before\\lblack edge: to a parent, or to a top block of a master\\lred dashed edge: to a foreign block, for another master\\lorange dashed edge: a block of another id is cached there\\lgray dashed edge: a top block that is not updated\\l\"];
-",
-    );
-    let b = put_masters(out, a, cache);
-    let c = put_groups(out, b, cache);
-    put_text(out, c, b"}\n")
+impl fmt::Display for Graph<'_> {
+    fn fmt<W: fmt::Write>(&self, f: &mut fmt::Formatter<W>) -> fmt::Result {
+        let cache = self.0;
+        f.write_str(HEAD)?;
+        print_masters(f, cache)?;
+        for held in cache.shards.iter().take(cache.shard_count) {
+            print_group(f, cache, held)?;
+        }
+        f.write_str("}")
+    }
 }

@@ -1,142 +1,113 @@
 // The lines of a load: each goes to the next free place of its list.
-use crate::raw::{group_at, range_of, with_count_and_range, with_group, with_id, zero_cache};
-use crate::state::{Ran, State, begin_load, complain};
+use crate::raw::{set, set_marks, zero_cache};
+use crate::state::State;
+use block_records::block_id::{BlockId, ShardIdent};
+use block_records::entry::{BlockCacheEntry, MasterBlock};
 use block_records::limits::{ENTRIES_LIMIT, IDS_LIMIT, SHARDS_LIMIT};
 use blocks_cache::cache::{Cache, ShardGroup};
 use blocks_group::group::{Group, zero_group};
-use replay_text::groups::{with_group_marks, with_next_entry, with_tops};
-use replay_text::lines::{Line, MASTERS};
-use replay_text::output::plus;
-use replay_text::records::{boundary_of, entry_of, mark_of};
-use replay_text::scan::{Scan, fail_unless, is_good, start_at};
-use replay_text::values::{Values, low};
-use replay_text::{forms, messages, values};
+use replay_text::dumped::{Dumped, Marks};
+use replay_text::raw::GroupPlace;
+use replay_text::unexpected::{Expected, Unexpected};
 
-// The group of a line with the marks that it gives.
-fn marked(group: Group, values: Values) -> Group {
-    let mark = mark_of(values);
-    let boundary = boundary_of(values);
-    with_group_marks(group, mark, boundary)
+// `load` itself.
+pub fn begin_load(state: &mut State<'_>, cache: &mut Cache) {
+    *cache = zero_cache();
+    state.begin_load();
 }
 
-fn with_masters(cache: Cache, values: Values) -> Cache {
-    let data = cache.data;
-    let range = range_of(values);
-    let ranged = with_count_and_range(data, data.count, range);
-    let place = MASTERS as usize;
-    let mut next = with_group(cache, place, marked(group_at(cache, place), values));
-    next.data = ranged;
-    next
-}
-
-fn with_shard(cache: Cache, values: Values) -> Cache {
+// A shard's group, which the next entries go to.
+fn add_shard(cache: &mut Cache, shard: &ShardIdent, marks: &Marks) -> Result<GroupPlace, Expected> {
     let place = cache.shard_count;
-    let group = marked(zero_group(), values);
-    let shard = values.shard;
-    let mut next = cache;
-    if place < SHARDS_LIMIT {
-        next.shards[place] = ShardGroup { shard, group };
+    if SHARDS_LIMIT <= place {
+        return Err(Expected::Room);
     }
-    next.shard_count = plus(place, 1);
-    next
+    let mut group = zero_group();
+    set_marks(&mut group, marks);
+    cache.shards[place] = ShardGroup {
+        shard: *shard,
+        group,
+    };
+    cache.shard_count = place + 1;
+    Ok(GroupPlace::Shard(place))
 }
 
-fn with_last_id(cache: Cache, values: Values) -> Cache {
-    let data = cache.data;
-    let mut put = with_id(data, data.count, values.id);
-    put.count = plus(data.count, 1);
-    let mut next = cache;
-    next.data = put;
-    next
+fn add_id(cache: &mut Cache, id: &BlockId) -> Result<(), Expected> {
+    let place = cache.data.ids.count;
+    if IDS_LIMIT <= place {
+        return Err(Expected::Room);
+    }
+    cache.data.ids.items[place] = *id;
+    cache.data.ids.count = place + 1;
+    Ok(())
 }
 
-// An entry of the group of a place; a master's top items stand beside it.
-fn with_block(cache: Cache, place: usize, values: Values) -> Cache {
-    let group = group_at(cache, place);
-    let mut next = with_group(cache, place, with_next_entry(group, entry_of(values)));
-    if place == MASTERS as usize {
-        let masters = with_tops(next.masters, group.count, values.tops);
-        next.masters = masters;
+// The place that an entry went to.
+fn add_entry(group: &mut Group, entry: &BlockCacheEntry) -> Result<usize, Expected> {
+    let place = group.count;
+    if ENTRIES_LIMIT <= place {
+        return Err(Expected::Room);
     }
-    next
+    group.entries[place] = *entry;
+    group.count = place + 1;
+    Ok(place)
 }
 
-// ===== whether a line has a place =====
-
-fn entry_fault(cache: Cache, place: usize, values: Values) -> Scan {
-    let group = group_at(cache, place);
-    let tops = values.tops;
-    let masters = MASTERS as usize;
-    let known = fail_unless(start_at(0), place <= masters, messages::NO_SHARD);
-    let room = fail_unless(known, group.count < ENTRIES_LIMIT, messages::ROOM);
-    fail_unless(room, place == masters || tops.count == 0, messages::NO_TOPS)
+fn add_master(cache: &mut Cache, block: &MasterBlock) -> Result<(), Expected> {
+    let place = add_entry(&mut cache.masters.group, &block.entry)?;
+    set(&mut cache.masters.tops, place, &block.tops);
+    Ok(())
 }
 
-fn fault(cache: Cache, state: State, line: Line) -> Scan {
-    let values = line.values;
-    if line.form == forms::ENTRY {
-        return entry_fault(cache, state.group, values);
+fn add_shard_block(cache: &mut Cache, shard: usize, block: &MasterBlock) -> Result<(), Expected> {
+    let Some(held) = cache.shards.get_mut(shard) else {
+        return Err(Expected::NoShard);
+    };
+    if ENTRIES_LIMIT <= held.group.count {
+        return Err(Expected::Room);
     }
-    let data = cache.data;
-    let ids = line.form != forms::ID || data.count < IDS_LIMIT;
-    let shards = line.form != forms::SHARD || cache.shard_count < SHARDS_LIMIT;
-    fail_unless(start_at(0), ids && shards, messages::ROOM)
+    if block.tops.count != 0 {
+        return Err(Expected::NoTops);
+    }
+    add_entry(&mut held.group, &block.entry)?;
+    Ok(())
 }
 
-// ===== a line =====
-
-fn with_line(cache: Cache, place: usize, line: Line) -> Cache {
-    if line.form == forms::ENTRY {
-        return with_block(cache, place, line.values);
+// An entry of the group of the last line that begins one.
+fn add_block(
+    cache: &mut Cache,
+    group: Option<GroupPlace>,
+    block: &MasterBlock,
+) -> Result<(), Expected> {
+    match group {
+        None => Err(Expected::NoShard),
+        Some(GroupPlace::Masters) => add_master(cache, block),
+        Some(GroupPlace::Shard(shard)) => add_shard_block(cache, shard, block),
     }
-    if line.form == forms::MASTERS {
-        return with_masters(cache, line.values);
-    }
-    if line.form == forms::SHARD {
-        return with_shard(cache, line.values);
-    }
-    if line.form == forms::ID {
-        return with_last_id(cache, line.values);
-    }
-    let values = line.values;
-    let mut next = cache;
-    next.zerostate_mc_seqno = low(values.numbers[values::NUMBER]);
-    next
 }
 
-// The group that the next entries go to.
-fn with_place(state: State, form: usize, shards: usize) -> State {
-    let mut next = state;
-    if form == forms::MASTERS {
-        next.group = MASTERS as usize;
+fn add_line(state: &mut State<'_>, cache: &mut Cache, line: &Dumped) -> Result<(), Expected> {
+    match line {
+        Dumped::Zerostate(seqno) => cache.zerostate_mc_seqno = *seqno,
+        Dumped::Masters { marks, range } => {
+            set_marks(&mut cache.masters.group, marks);
+            cache.data.range = *range;
+            state.group = Some(GroupPlace::Masters);
+        }
+        Dumped::Shard { shard, marks } => {
+            let place = add_shard(cache, shard, marks)?;
+            state.group = Some(place);
+        }
+        Dumped::Entry(block) => add_block(cache, state.group, block)?,
+        Dumped::Id(id) => add_id(cache, id)?,
+        Dumped::End => state.end_load(),
     }
-    if form == forms::SHARD {
-        next.group = shards;
-    }
-    next
+    Ok(())
 }
 
-// `load` and the lines of a dump up to its end.
-pub fn is_load(form: usize) -> bool {
-    forms::LOAD <= form && form < forms::END
-}
-
-pub fn run_load(out: &mut [u8], cache: Cache, state: State, line: Line) -> Ran {
-    if line.form == forms::LOAD {
-        return Ran {
-            cache: zero_cache(),
-            state: begin_load(state),
-        };
-    }
-    let found = fault(cache, state, line);
-    if !is_good(found) {
-        let bad = complain(out, state, found);
-        return Ran { cache, state: bad };
-    }
-    let next = with_line(cache, state.group, line);
-    let placed = with_place(state, line.form, cache.shard_count);
-    Ran {
-        cache: next,
-        state: placed,
+// A line that has no place is bad.
+pub fn load_line(state: &mut State<'_>, cache: &mut Cache, line: &Dumped) {
+    if let Err(expected) = add_line(state, cache, line) {
+        state.complain(Unexpected::line(expected));
     }
 }

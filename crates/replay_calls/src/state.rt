@@ -1,142 +1,101 @@
-// What a line needs to know beside the cache and the slice, and what is counted.
-use blocks_cache::cache::Cache;
-use replay_text::lines::Line;
-use replay_text::messages::put_bad;
-use replay_text::output::{plus, put_labelled, put_text};
-use replay_text::print::{put_refused, put_word};
-use replay_text::scan::Scan;
-use replay_text::{forms, values};
+// What a line needs to know beside the cache and the slice, what is counted, and where answers go.
+use block_records::questions::Refusal;
+use replay_text::output::Output;
+use replay_text::raw::GroupPlace;
+use replay_text::unexpected::{Expected, Unexpected};
+use std::fmt;
+use std::fmt::Write;
 
-// No group yet: a dump's entry has nowhere to go.
-pub const NO_GROUP: usize = 9;
-
-#[derive(Clone, Copy)]
-pub struct State {
-    // where the next byte that is printed goes
-    pub at: usize,
+#[derive(Drop)]
+pub struct State<'a> {
+    pub out: Output<'a>,
     // the number of the line
-    pub line: usize,
+    pub line: u64,
     // how many places of the slice are lent
     pub places: usize,
     // whether answers are led by the number of their line
     pub numbered: bool,
-    // the number of the line `load`, 0 outside a load
-    pub load: usize,
+    // the number of the line `load`, within a load
+    pub load: Option<u64>,
     // where a dump's entries go
-    pub group: usize,
+    pub group: Option<GroupPlace>,
     // what was counted
-    pub calls: usize,
-    pub refused: usize,
-    pub bad: usize,
+    pub calls: u64,
+    pub refused: u64,
+    pub bad: u64,
 }
 
-// The cache and the state after a line.
-#[derive(Clone, Copy)]
-pub struct Ran {
-    pub cache: Cache,
-    pub state: State,
-}
-
-pub fn new_state() -> State {
-    State {
-        at: 0,
-        line: 0,
-        places: 128,
-        numbered: false,
-        load: 0,
-        group: NO_GROUP,
-        calls: 0,
-        refused: 0,
-        bad: 0,
+impl<'a> State<'a> {
+    pub fn new(out: Output<'a>) -> Self {
+        State {
+            out,
+            line: 0,
+            places: 128,
+            numbered: false,
+            load: None,
+            group: None,
+            calls: 0,
+            refused: 0,
+            bad: 0,
+        }
     }
-}
 
-pub fn printed(state: State, at: usize) -> State {
-    let mut next = state;
-    next.at = at;
-    next
-}
-
-// The line is bad: nothing else changes.
-pub fn complain(out: &mut [u8], state: State, scan: Scan) -> State {
-    let mut next = printed(state, put_bad(out, state.at, state.line as u64, scan));
-    next.bad = plus(state.bad, 1);
-    next
-}
-
-// The number of the line before its answer, where that is asked for.
-pub fn put_lead(out: &mut [u8], state: State) -> usize {
-    if !state.numbered {
-        return state.at;
+    pub fn is_loading(&self) -> bool {
+        self.load.is_some()
     }
-    let to = put_labelled(out, state.at, b"", state.line as u64);
-    put_text(out, to, b": ")
-}
 
-// A call is counted, and its answer is led.
-pub fn led(out: &mut [u8], state: State, form: usize) -> State {
-    if forms::SOUND < form {
-        return state;
+    pub fn count_line(&mut self) {
+        self.line = self.line.saturating_add(1);
     }
-    let mut next = printed(state, put_lead(out, state));
-    next.calls = plus(state.calls, 1);
-    next
-}
 
-pub fn refused(out: &mut [u8], state: State, number: u32) -> State {
-    let mut next = printed(state, put_refused(out, state.at, number));
-    next.refused = plus(state.refused, 1);
-    next
-}
-
-// An answer of one word.
-pub fn said(out: &mut [u8], state: State, form: usize) -> State {
-    printed(state, put_word(out, state.at, form))
-}
-
-// ===== settings =====
-
-// `load` itself; the cache is emptied beside it.
-pub fn begin_load(state: State) -> State {
-    let mut next = state;
-    next.load = state.line;
-    next.group = NO_GROUP;
-    next
-}
-
-pub fn loading(state: State) -> bool {
-    0 < state.load
-}
-
-fn loaded(out: &mut [u8], state: State) -> State {
-    let to = put_lead(out, state);
-    let mut next = printed(state, put_word(out, to, forms::LOADED));
-    next.load = 0;
-    next
-}
-
-fn with_setting(state: State, line: Line) -> State {
-    let mut next = state;
-    let values = line.values;
-    if line.form == forms::SLICE {
-        next.places = values.numbers[values::LENT] as usize;
-    } else {
-        next.numbered = line.form == forms::NUMBER_ON;
+    // What is printed may fail to go out, and is then dropped.
+    pub fn print<D: fmt::Display + Drop>(&mut self, shown: D) {
+        let _ = writeln!(self.out, "{shown}");
     }
-    next
-}
 
-// A line that sets nothing but the state, is skipped or is bad.
-pub fn run_setting(out: &mut [u8], state: State, line: Line) -> State {
-    if line.form == forms::BAD {
-        let values = line.values;
-        return complain(out, state, values.scan);
+    // The number of the line before its answer, where that is asked for.
+    fn lead(&mut self) {
+        if self.numbered {
+            let line = self.line;
+            let _ = write!(self.out, "{line}: ");
+        }
     }
-    if line.form == forms::END {
-        return loaded(out, state);
+
+    // The line is bad: nothing else changes.
+    pub fn complain(&mut self, unexpected: Unexpected) {
+        self.bad = self.bad.saturating_add(1);
+        let line = self.line;
+        let _ = writeln!(self.out, "line {line}: {unexpected}");
     }
-    if forms::SLICE <= line.form && line.form <= forms::NUMBER_OFF {
-        return with_setting(state, line);
+
+    // A line that is none of the program's language.
+    pub fn complain_of_command(&mut self) {
+        self.complain(Unexpected::line(Expected::Command));
     }
-    state
+
+    // The answer of a call.
+    pub fn answer<D: fmt::Display + Drop>(&mut self, answer: Result<D, Refusal>) {
+        self.lead();
+        self.calls = self.calls.saturating_add(1);
+        match answer {
+            Ok(shown) => self.print(shown),
+            Err(refusal) => {
+                self.refused = self.refused.saturating_add(1);
+                self.print(refusal);
+            }
+        }
+    }
+
+    // `load` itself; the cache is emptied beside it.
+    pub fn begin_load(&mut self) {
+        self.load = Some(self.line);
+        self.group = None;
+    }
+
+    // The end of a load.
+    pub fn end_load(&mut self) {
+        self.load = None;
+        self.lead();
+        self.print("loaded");
+    }
 }

@@ -1,24 +1,9 @@
 // The language in short; docs/SCRIPTREPLAY.md has it whole.
-use crate::explain::put_question;
-use crate::output::put_text;
+use crate::questions::Questions;
+use std::fmt;
 
-const QUESTIONS: usize = 12;
-
-fn put_questions(out: &mut [u8], at: usize) -> usize {
-    let mut to = at;
-    let mut i: usize = 0;
-    while i < QUESTIONS {
-        to = put_question(out, to, i);
-        i += 1;
-    }
-    to
-}
-
-pub fn help(out: &mut [u8], at: usize) -> usize {
-    let to = put_text(
-        out,
-        at,
-        b"A line is a command of at most 8192 bytes; empty lines and lines that begin with # are skipped.
+const LANGUAGE: &str =
+    "A line is a command of at most 8192 bytes; empty lines and lines that begin with # are skipped.
 new Z                                        an empty cache of zerostate seqno Z
 store_collated ID ref=N prev=IDS top=TOPS anchor=OPT pta=N pay=N
 store_received ID mc=ID prev=IDS top=TOPS anchor=OPT pay=N
@@ -41,8 +26,14 @@ help                                         these lines
 ID is W:PREFIX:SEQNO:ROOT:FILE, KEY its first three parts, SHARD its first two; hashes and prefix in lower-case hexadecimal, in full
 W is a workchain, -2147483648 to 2147483647, and -1 is the masterchain
 OPT is - or N; IDS, KEYS and TOPS are - or items with commas between them; a top is REF/ID/0 or REF/ID/1
-Every call may answer 'refused N', N being the first question whose answer is no; the cache is then as before
-",
-    );
-    put_questions(out, to)
+Every call may answer 'refused N', N being the first question whose answer is no; the cache is then as before";
+
+#[derive(Clone, Copy)]
+pub struct Help;
+
+impl fmt::Display for Help {
+    fn fmt<W: fmt::Write>(&self, f: &mut fmt::Formatter<W>) -> fmt::Result {
+        let questions = Questions;
+        write!(f, "{LANGUAGE}{questions}")
+    }
 }

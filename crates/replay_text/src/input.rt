@@ -1,129 +1,120 @@
 // The script, line by line.
-use crate::output::plus;
+use crate::commands::{Command, read_line};
+use crate::unexpected::{Expected, Unexpected};
 use std::io::Read;
 
-// What was read and not yet taken stands in a buffer between two places.
-#[derive(Clone, Copy)]
-pub struct Reader {
-    pub from: usize,
-    pub to: usize,
-    // how many bytes the line has; those past the line's last place are only counted
-    pub length: usize,
+#[derive(Drop)]
+pub struct Input<'source, 'buffer, 'line, R> {
+    source: &'source mut R,
+    // what was read and not yet taken stands here between two places
+    buffer: &'buffer mut [u8],
+    from: usize,
+    to: usize,
+    // the line, and how many bytes it has; those past the last place are only counted
+    line: &'line mut [u8],
+    length: usize,
     // the line has ended
-    pub complete: bool,
+    complete: bool,
     // the input has ended
-    pub ended: bool,
-    // a read has failed
-    pub failed: bool,
-    // the system's number of that failure; 0 where it gave none
-    pub error: i32,
+    ended: bool,
+    // the system's number of the failure that ended it, 0 where it gave none
+    error: Option<i32>,
 }
 
-#[derive(Clone, Copy)]
-pub struct Got {
-    pub bytes: usize,
-    pub failed: bool,
-    pub error: i32,
-}
-
-pub fn new_reader() -> Reader {
-    Reader {
-        from: 0,
-        to: 0,
-        length: 0,
-        complete: false,
-        ended: false,
-        failed: false,
-        error: 0,
+impl<'source, 'buffer, 'line, R: Read> Input<'source, 'buffer, 'line, R> {
+    pub fn new(source: &'source mut R, buffer: &'buffer mut [u8], line: &'line mut [u8]) -> Self {
+        Input {
+            source,
+            buffer,
+            from: 0,
+            to: 0,
+            line,
+            length: 0,
+            complete: false,
+            ended: false,
+            error: None,
+        }
     }
-}
 
-fn read_some<R: Read>(source: &mut R, input: &mut [u8]) -> Got {
-    match source.read(input) {
-        Ok(bytes) => Got {
-            bytes,
-            failed: false,
-            error: 0,
-        },
-        Err(e) => Got {
-            bytes: 0,
-            failed: true,
-            error: e.raw_os_error().unwrap_or(0),
-        },
+    pub fn has_ended(&self) -> bool {
+        self.ended
     }
-}
 
-// The place of the next line end, or the end of what was read.
-fn line_end(input: &[u8], from: usize, to: usize) -> usize {
-    let mut i = from;
-    while i < to && i < input.len() && input[i] != b'\n' {
-        i += 1;
+    pub fn error(&self) -> Option<i32> {
+        self.error
     }
-    i
-}
 
-// A byte of the line goes to its place; past the last one it is only counted.
-fn put_in_line(line: &mut [u8], at: usize, byte: u8) -> usize {
-    if at < line.len() {
-        line[at] = byte;
-        return plus(at, 1);
+    // Whether the next line begins with bytes that were read already.
+    pub fn is_ahead(&self) -> bool {
+        self.from < self.to
     }
-    plus(at, 1)
-}
 
-// The input's bytes from one place to another go to the end of the line so far.
-fn append(line: &mut [u8], before: usize, input: &[u8], from: usize, to: usize) -> usize {
-    let mut at = before;
-    let mut i = from;
-    while i < to && i < input.len() {
-        at = put_in_line(line, at, input[i]);
-        i += 1;
+    // Whether there is a line: what follows the last line end is one only if it has a byte.
+    pub fn has_line(&self) -> bool {
+        self.complete || 0 < self.length
     }
-    at
-}
 
-// What the buffer holds, up to a line end.
-fn take_part(reader: Reader, input: &[u8], line: &mut [u8]) -> Reader {
-    let end = line_end(input, reader.from, reader.to);
-    let mut next = reader;
-    next.length = append(line, reader.length, input, reader.from, end);
-    next.from = plus(end, 1);
-    next.complete = end < reader.to;
-    next
-}
-
-fn refill<R: Read>(reader: Reader, source: &mut R, input: &mut [u8]) -> Reader {
-    let got = read_some(source, input);
-    let mut next = reader;
-    next.from = 0;
-    next.to = got.bytes;
-    next.ended = got.bytes == 0;
-    next.failed = got.failed;
-    next.error = got.error;
-    next
-}
-
-fn read_part<R: Read>(reader: Reader, source: &mut R, input: &mut [u8], line: &mut [u8]) -> Reader {
-    if reader.from < reader.to {
-        return take_part(reader, &input[..], line);
+    // The line without the carriage return at its end; nothing where it is too long.
+    fn line(&self) -> Option<&[u8]> {
+        let length = self.length;
+        let line = self.line.get(..length)?;
+        line.strip_suffix(b"\r").or(Some(line))
     }
-    refill(reader, source, input)
-}
 
-// The next line; the last one may have no line end. A proved loop has to end: it counts its turns down, from a number that no run uses up.
-pub fn next_line<R: Read>(
-    reader: Reader,
-    source: &mut R,
-    input: &mut [u8],
-    line: &mut [u8],
-) -> Reader {
-    let mut next = reader;
-    next.length = 0;
-    next.complete = false;
-    let mut turns = u64::MAX;
-    while 0 < turns && !next.complete && !next.ended {
-        next = read_part(next, source, input, line);
-        turns -= 1;
+    // The line's command, if it has one.
+    pub fn command(&self, loading: bool) -> Result<Option<Command>, Unexpected> {
+        let line = self.line().ok_or(Unexpected::line(Expected::Length))?;
+        read_line(line, loading)
     }
-    next
+
+    // The next line is read; the last one may have no line end.
+    pub fn next_line(&mut self) {
+        self.length = 0;
+        self.complete = false;
+        for _ in 0..u64::MAX {
+            if self.complete || self.ended {
+                break;
+            }
+            if self.is_ahead() {
+                self.take_part();
+            } else {
+                self.refill();
+            }
+        }
+    }
+
+    // What the buffer holds, up to a line end. Byte by byte: copied as a slice, a lent field of self is used beside another, which the proof does not cover.
+    fn take_part(&mut self) {
+        for at in self.from..self.to {
+            let Some(byte) = self.buffer.get(at).copied() else {
+                break;
+            };
+            self.from = at + 1;
+            if byte == b'\n' {
+                self.complete = true;
+                break;
+            }
+            self.append(byte);
+        }
+    }
+
+    fn append(&mut self, byte: u8) {
+        if self.length < self.line.len() {
+            self.line[self.length] = byte;
+        }
+        self.length = self.length.saturating_add(1);
+    }
+
+    fn refill(&mut self) {
+        let read = self.source.read(self.buffer);
+        self.from = 0;
+        match read {
+            Ok(bytes) => self.to = bytes,
+            Err(error) => {
+                self.to = 0;
+                self.error = Some(error.raw_os_error().unwrap_or(0));
+            }
+        }
+        self.ended = self.to == 0;
+    }
 }

@@ -1,17 +1,14 @@
 // The replay's language: the lines that it has, their reading and their printing (docs/SCRIPTREPLAY.md).
 #![tactic(auto)]
 
-pub mod explain;
-pub mod forms;
-pub mod groups;
+pub mod commands;
+pub mod dumped;
 pub mod help;
-pub mod ids;
 pub mod input;
-pub mod lines;
-pub mod lists;
-pub mod messages;
 pub mod output;
-pub mod print;
+pub mod questions;
+pub mod raw;
 pub mod records;
-pub mod scan;
-pub mod values;
+pub mod scanner;
+pub mod spelled;
+pub mod unexpected;

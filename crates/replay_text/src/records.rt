@@ -1,202 +1,198 @@
-// The records of a line's values, and the values of a record.
-use crate::scan::start_at;
-use crate::values::{ABSENT, Values, low, no_values};
-use crate::{forms, values};
-use block_records::entry::{BlockCacheEntry, BlockCacheEntryData, CandidateStatus, status_number};
-use block_records::store_records::{Anchor, BlockCandidate, PrevIds, ReceivedBlock};
-use block_records::top_block::TopBlocks;
-use blocks_group::group::Boundary;
-use blocks_group::mark::Mark;
+// How records are spelled: entries, their kinds, and what is given to be stored.
+use crate::scanner::Scanner;
+use crate::spelled::{Item, Shown, Spelled, print_items, read_items};
+use crate::unexpected::{Expected, Unexpected};
+use block_records::entry::{BlockCacheEntry, BlockCacheEntryData, MasterBlock};
+use block_records::listed::Listed;
+use block_records::store_records::{BlockCandidate, ReceivedBlock};
+use std::fmt;
 
-// ===== read =====
-
-fn anchor_of(number: u64) -> Anchor {
-    if number == ABSENT {
-        return Anchor::Absent;
-    }
-    Anchor::At(low(number))
+// The result of a validation: how many signatures and which weight they have, nothing where it was skipped.
+#[derive(Clone, Copy)]
+pub enum Verdict {
+    Complete { signatures: u64, total_weight: u64 },
+    Skipped,
 }
 
-pub fn mark_of(values: Values) -> Mark {
-    let number = values.numbers[values::MARK];
-    if number == ABSENT {
-        return Mark::Absent;
+pub fn read_verdict(scanner: &mut Scanner<'_>) -> Result<Verdict, Unexpected> {
+    if scanner.takes("skipped") {
+        return Ok(Verdict::Skipped);
     }
-    Mark::At(low(number))
+    if scanner.begins("complete") {
+        return Ok(Verdict::Complete {
+            signatures: scanner.field("complete ")?,
+            total_weight: scanner.field(" ")?,
+        });
+    }
+    Err(scanner.unexpected(Expected::Verdict))
 }
 
-pub fn boundary_of(values: Values) -> Boundary {
-    if values.numbers[values::BOUNDARY] == ABSENT {
-        return Boundary::Absent;
-    }
-    Boundary::At(values.key)
+pub fn read_candidate(scanner: &mut Scanner<'_>) -> Result<BlockCandidate, Unexpected> {
+    Ok(BlockCandidate {
+        block_id: scanner.field(" ")?,
+        ref_by_mc_seqno: scanner.field(" ref=")?,
+        prev_ids: scanner.field(" prev=")?,
+        top_blocks: scanner.field(" top=")?,
+        top_anchor: scanner.field(" anchor=")?,
+        processed_to_anchor: scanner.field(" pta=")?,
+        payload: scanner.field(" pay=")?,
+    })
 }
 
-pub fn candidate_of(values: Values) -> BlockCandidate {
-    let block_id = values.id;
-    let prev_ids = values.prev;
-    let top_blocks = values.tops;
-    let top_anchor = anchor_of(values.numbers[values::ANCHOR]);
-    BlockCandidate {
-        block_id,
-        ref_by_mc_seqno: low(values.numbers[values::REFERENCE]),
-        prev_ids,
-        top_blocks,
-        top_anchor,
-        processed_to_anchor: low(values.numbers[values::PROCESSED_TO]),
-        payload: values.numbers[values::PAYLOAD],
+pub fn read_received(scanner: &mut Scanner<'_>) -> Result<ReceivedBlock, Unexpected> {
+    Ok(ReceivedBlock {
+        block_id: scanner.field(" ")?,
+        ref_block_id: scanner.field(" mc=")?,
+        prev_ids: scanner.field(" prev=")?,
+        top_blocks: scanner.field(" top=")?,
+        top_anchor: scanner.field(" anchor=")?,
+        payload: scanner.field(" pay=")?,
+    })
+}
+
+// ===== entries =====
+
+fn read_collated(scanner: &mut Scanner<'_>) -> Result<BlockCacheEntryData, Unexpected> {
+    Ok(BlockCacheEntryData::Collated {
+        status: scanner.field("kind=collated status=")?,
+        received_after_collation: scanner.field(" received_after=")?,
+        signatures: scanner.field(" handle=")?,
+        total_signature_weight: scanner.field(" weight=")?,
+        processed_to_anchor: scanner.field(" pta=")?,
+    })
+}
+
+fn read_received_kind(scanner: &mut Scanner<'_>) -> Result<BlockCacheEntryData, Unexpected> {
+    Ok(BlockCacheEntryData::Received {
+        collated_after_receive: scanner.field("kind=received collated_after=")?,
+        additional_anchor: scanner.field(" additional=")?,
+    })
+}
+
+impl Spelled for BlockCacheEntryData {
+    fn read(scanner: &mut Scanner<'_>) -> Result<Self, Unexpected> {
+        if scanner.begins("kind=collated") {
+            return read_collated(scanner);
+        }
+        if scanner.begins("kind=received") {
+            return read_received_kind(scanner);
+        }
+        Err(scanner.unexpected(Expected::Kind))
+    }
+
+    fn print<W: fmt::Write>(&self, f: &mut fmt::Formatter<W>) -> fmt::Result {
+        match *self {
+            BlockCacheEntryData::Collated {
+                status,
+                received_after_collation,
+                signatures,
+                total_signature_weight,
+                processed_to_anchor,
+            } => {
+                let status = Shown(&status);
+                let received = received_after_collation as u8;
+                write!(f, "kind=collated status={status} received_after={received}")?;
+                write!(f, " handle={signatures} weight={total_signature_weight}")?;
+                write!(f, " pta={processed_to_anchor}")
+            }
+            BlockCacheEntryData::Received {
+                collated_after_receive,
+                additional_anchor,
+            } => {
+                let collated = collated_after_receive as u8;
+                let anchor = Shown(&additional_anchor);
+                write!(
+                    f,
+                    "kind=received collated_after={collated} additional={anchor}"
+                )
+            }
+        }
     }
 }
 
-pub fn received_of(values: Values) -> ReceivedBlock {
-    let block_id = values.id;
-    let ref_block_id = values.master;
-    let prev_ids = values.prev;
-    let top_blocks = values.tops;
-    let top_anchor = anchor_of(values.numbers[values::ANCHOR]);
-    ReceivedBlock {
-        block_id,
-        ref_block_id,
-        prev_ids,
-        top_blocks,
-        top_anchor,
-        payload: values.numbers[values::PAYLOAD],
-    }
-}
-
-fn status_of(number: u64) -> CandidateStatus {
-    match number {
-        0 => CandidateStatus::Collated,
-        1 => CandidateStatus::Validated,
-        2 => CandidateStatus::ValidationSkipped,
-        _ => CandidateStatus::Synced,
-    }
-}
-
-fn data_of(values: Values) -> BlockCacheEntryData {
-    let flag = values.numbers[values::FLAG] == 1;
-    if values.numbers[values::REST] == forms::RECEIVED_KIND as u64 {
-        let additional_anchor = anchor_of(values.numbers[values::ADDITIONAL]);
-        return BlockCacheEntryData::Received {
-            collated_after_receive: flag,
-            additional_anchor,
+// An entry with its top items; a shard block has none.
+impl Spelled for MasterBlock {
+    fn read(scanner: &mut Scanner<'_>) -> Result<Self, Unexpected> {
+        let block_id = Spelled::read(scanner)?;
+        let ref_by_mc_seqno = scanner.field(" ref=")?;
+        let prev_ids = scanner.field(" prev=")?;
+        let tops = scanner.field(" top=")?;
+        let entry = BlockCacheEntry {
+            block_id,
+            prev_ids,
+            top_anchor: scanner.field(" anchor=")?,
+            ref_by_mc_seqno,
+            payload: scanner.field(" pay=")?,
+            data: scanner.field(" ")?,
         };
+        Ok(MasterBlock { entry, tops })
     }
-    let status = status_of(values.numbers[values::STATUS]);
-    BlockCacheEntryData::Collated {
-        status,
-        received_after_collation: flag,
-        signatures: values.numbers[values::HANDLE],
-        total_signature_weight: values.numbers[values::WEIGHT],
-        processed_to_anchor: low(values.numbers[values::PROCESSED_TO]),
-    }
-}
 
-pub fn entry_of(values: Values) -> BlockCacheEntry {
-    let block_id = values.id;
-    let prev_ids = values.prev;
-    let top_anchor = anchor_of(values.numbers[values::ANCHOR]);
-    let data = data_of(values);
-    BlockCacheEntry {
-        block_id,
-        prev_ids,
-        top_anchor,
-        ref_by_mc_seqno: low(values.numbers[values::REFERENCE]),
-        payload: values.numbers[values::PAYLOAD],
-        data,
+    fn print<W: fmt::Write>(&self, f: &mut fmt::Formatter<W>) -> fmt::Result {
+        let entry = &self.entry;
+        let id = entry.block_id;
+        let reference = entry.ref_by_mc_seqno;
+        let prev = Shown(&entry.prev_ids);
+        let tops = Shown(&self.tops);
+        write!(f, "{id} ref={reference} prev={prev} top={tops}")?;
+        let anchor = Shown(&entry.top_anchor);
+        let payload = entry.payload;
+        let kind = Shown(&entry.data);
+        write!(f, " anchor={anchor} pay={payload} {kind}")
     }
 }
 
-// An entry as a `raw` line has it: two previous ids, and any count beside them.
-pub fn raw_entry_of(values: Values) -> BlockCacheEntry {
-    let mut entry = entry_of(values);
-    entry.prev_ids.count = values.numbers[values::COUNT] as usize;
-    entry
-}
+// ===== records as they stand =====
 
-// Eight top items, and any count beside them.
-pub fn raw_tops_of(values: Values) -> TopBlocks {
-    let mut tops = values.tops;
-    tops.count = values.numbers[values::COUNT] as usize;
-    tops
-}
+// A list as it stands: all its places, and any count beside them.
+#[derive(Clone, Copy)]
+pub struct Places<'a, T>(pub &'a [T]);
 
-// ===== printed =====
-
-fn anchor_number(anchor: Anchor) -> u64 {
-    match anchor {
-        Anchor::Absent => ABSENT,
-        Anchor::At(id) => id as u64,
+impl<T: Spelled> fmt::Display for Places<'_, T> {
+    fn fmt<W: fmt::Write>(&self, f: &mut fmt::Formatter<W>) -> fmt::Result {
+        print_items(self.0, f)
     }
 }
 
-fn with_received(values: Values, collated_after: bool, additional: Anchor) -> Values {
-    let mut next = values;
-    next.numbers[values::REST] = forms::RECEIVED_KIND as u64;
-    next.numbers[values::FLAG] = collated_after as u64;
-    next.numbers[values::ADDITIONAL] = anchor_number(additional);
-    next
-}
-
-fn with_data(values: Values, data: BlockCacheEntryData) -> Values {
-    match data {
-        BlockCacheEntryData::Collated {
-            status,
-            received_after_collation,
-            signatures,
-            total_signature_weight,
-            processed_to_anchor,
-        } => {
-            let mut next = values;
-            next.numbers[values::REST] = forms::COLLATED_KIND as u64;
-            next.numbers[values::FLAG] = received_after_collation as u64;
-            next.numbers[values::STATUS] = status_number(status) as u64;
-            next.numbers[values::HANDLE] = signatures;
-            next.numbers[values::WEIGHT] = total_signature_weight;
-            next.numbers[values::PROCESSED_TO] = processed_to_anchor as u64;
-            next
-        }
-        BlockCacheEntryData::Received {
-            collated_after_receive,
-            additional_anchor,
-        } => with_received(values, collated_after_receive, additional_anchor),
+pub fn read_places<T: Item, const N: usize>(
+    scanner: &mut Scanner<'_>,
+    count: usize,
+    expected: Expected,
+) -> Result<Listed<T, N>, Unexpected> {
+    let mut places: Listed<T, N> = read_items(scanner)?;
+    if places.count != N {
+        return Err(scanner.unexpected(expected));
     }
+    places.count = count;
+    Ok(places)
 }
 
-pub fn entry_values(entry: BlockCacheEntry, tops: TopBlocks) -> Values {
-    let id = entry.block_id;
-    let prev = entry.prev_ids;
-    let anchor = entry.top_anchor;
-    let data = entry.data;
-    let mut values = no_values(start_at(0));
-    values.id = id;
-    values.prev = prev;
-    values.tops = tops;
-    values.numbers[values::COUNT] = prev.count as u64;
-    values.numbers[values::REFERENCE] = entry.ref_by_mc_seqno as u64;
-    values.numbers[values::ANCHOR] = anchor_number(anchor);
-    values.numbers[values::PAYLOAD] = entry.payload;
-    with_data(values, data)
-}
-
-fn mark_number(mark: Mark) -> u64 {
-    match mark {
-        Mark::Absent => ABSENT,
-        Mark::At(seqno) => seqno as u64,
+// An entry as it stands in its place: both previous ids.
+impl Spelled for BlockCacheEntry {
+    fn read(scanner: &mut Scanner<'_>) -> Result<Self, Unexpected> {
+        let block_id = Spelled::read(scanner)?;
+        let ref_by_mc_seqno = scanner.field(" ref=")?;
+        let count = scanner.field(" prev_count=")?;
+        scanner.text(" prev=")?;
+        Ok(BlockCacheEntry {
+            block_id,
+            prev_ids: read_places(scanner, count, Expected::TwoIds)?,
+            top_anchor: scanner.field(" anchor=")?,
+            ref_by_mc_seqno,
+            payload: scanner.field(" pay=")?,
+            data: scanner.field(" ")?,
+        })
     }
-}
 
-// A group's mark and boundary.
-pub fn with_marks(values: Values, mark: Mark, boundary: Boundary) -> Values {
-    let mut next = values;
-    next.numbers[values::MARK] = mark_number(mark);
-    match boundary {
-        Boundary::Absent => {
-            next.numbers[values::BOUNDARY] = ABSENT;
-        }
-        Boundary::At(short) => {
-            next.key = short;
-        }
+    fn print<W: fmt::Write>(&self, f: &mut fmt::Formatter<W>) -> fmt::Result {
+        let id = self.block_id;
+        let reference = self.ref_by_mc_seqno;
+        let count = self.prev_ids.count;
+        let prev = Places(&self.prev_ids.items);
+        write!(f, "{id} ref={reference} prev_count={count} prev={prev}")?;
+        let anchor = Shown(&self.top_anchor);
+        let payload = self.payload;
+        let kind = Shown(&self.data);
+        write!(f, " anchor={anchor} pay={payload} {kind}")
     }
-    next
 }

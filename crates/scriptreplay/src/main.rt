@@ -6,26 +6,28 @@ mod report;
 mod run;
 
 use options::{Source, open_source};
+use replay_calls::state::State;
+use replay_text::input::Input;
+use replay_text::output::Output;
 use report::report;
 use run::run_script;
 use std::io::Read;
 
 fn replay<R: Read>(rt: HostRuntime, source: &mut R) {
-    let mut input = [0u8; 16384];
+    let mut buffer = [0u8; 16384];
     let mut line = [0u8; 8192];
-    let mut out = [0u8; 16384];
-    let run = run_script(source, &mut input, &mut line, &mut out);
-    report(rt, run, &mut out);
+    let mut printed = [0u8; 16384];
+    let mut input = Input::new(source, &mut buffer, &mut line);
+    let mut state = State::new(Output::new(&mut printed));
+    run_script(&mut input, &mut state);
+    report(rt, input.error(), &mut state);
 }
 
 fn main(rt: HostRuntime) {
     let mut path = io::buffer();
     match open_source(rt, &mut path) {
-        Source::Nothing => {}
-        Source::Input => replay(rt, &mut rt.stdin()),
-        Source::Script(file) => {
-            let mut script = file;
-            replay(rt, &mut script);
-        }
+        None => {}
+        Some(Source::Input) => replay(rt, &mut rt.stdin()),
+        Some(Source::Script(mut script)) => replay(rt, &mut script),
     }
 }

@@ -1,58 +1,38 @@
 // What is said at the end of a run, on standard error.
-use crate::run::Run;
-use replay_calls::state::{State, loading};
-use replay_text::output::{BROKEN, flush, put_labelled, put_text};
+use replay_calls::state::State;
 use std::io::Error;
 
-// The descriptor of standard error.
-const STDERR_FILENO: i32 = 2;
-
-// What stands at the front of the buffer goes to standard error.
-fn say(out: &[u8], at: usize) {
-    if at <= out.len() {
-        io::write_all(STDERR_FILENO, &out[..at]);
+fn report_load(rt: HostRuntime, state: &State<'_>) {
+    if let Some(line) = state.load {
+        let _ = eprintln!(rt;
+            "scriptreplay: the input ended inside the load that began in line {line}: no end line"
+        );
     }
 }
 
-fn report_load(state: State, out: &mut [u8]) {
-    if !loading(state) {
-        return;
-    }
-    let a = put_labelled(
-        out,
-        0,
-        b"scriptreplay: the input ended inside the load that began in line ",
-        state.load as u64,
-    );
-    let b = put_text(out, a, b": no end line\n");
-    say(&out[..], b);
-}
-
-fn report_counts(state: State, out: &mut [u8]) {
+fn report_counts(rt: HostRuntime, state: &State<'_>) {
     if state.refused == 0 && state.bad == 0 {
         return;
     }
-    let a = put_labelled(out, 0, b"scriptreplay: lines ", state.line as u64);
-    let b = put_labelled(out, a, b", calls ", state.calls as u64);
-    let c = put_labelled(out, b, b", refused ", state.refused as u64);
-    let d = put_labelled(out, c, b", bad ", state.bad as u64);
-    let e = put_text(out, d, b"\n");
-    say(&out[..], e);
+    let lines = state.line;
+    let calls = state.calls;
+    let refused = state.refused;
+    let bad = state.bad;
+    let _ = eprintln!(rt;
+        "scriptreplay: lines {lines}, calls {calls}, refused {refused}, bad {bad}"
+    );
 }
 
-pub fn report(rt: HostRuntime, run: Run, out: &mut [u8]) {
-    let state = run.state;
-    let reader = run.reader;
-    if reader.failed {
-        let error = Error::from_raw_os_error(reader.error);
+// The input may have ended by an error, of which the system's number is given.
+pub fn report(rt: HostRuntime, input: Option<i32>, state: &mut State<'_>) {
+    if let Some(number) = input {
+        let error = Error::from_raw_os_error(number);
         let _ = eprintln!(rt; "scriptreplay: the input can't be read: {error}");
     }
-    if state.at == BROKEN || flush(&out[..], state.at) == BROKEN {
-        io::write_all(
-            STDERR_FILENO,
-            b"scriptreplay: the output can't be written\n",
-        );
+    state.out.flush();
+    if state.out.is_broken() {
+        let _ = eprintln!(rt; "scriptreplay: the output can't be written");
     }
-    report_load(state, out);
-    report_counts(state, out);
+    report_load(rt, state);
+    report_counts(rt, state);
 }

@@ -1,5 +1,7 @@
 -- Lists that stand in arrays, over any element type: the first places, what stands at a place, and one turn of each kind of loop that fills an array.
 -- Assumes nothing.
+use Rattle.std.specs.List.{list_all}
+use Rattle.std.specs.Prelude.{map, cond, filter}
 use mathlib.Core.Bool.{Bool, false, true}
 use mathlib.Core.List.{List, [], ◌++◌, ◌∷◌, append_assoc, append-nil}
 use mathlib.Core.Path.{◌∙◌, ◌≡◌, ap, refl, subst, sym}
@@ -15,18 +17,18 @@ use Rattle.block_records.proofs.arrays.LoopLaws.{padded_nil, set_padded, take_mo
 use Rattle.block_records.proofs.rules.ListLaws.{length_each}
 use Rattle.block_records.proofs.rules.Tests.{and_left, and_right, on}
 use Rattle.block_records.specs.arrays.Arrays.{Splices, flagged, spliced}
-use Rattle.block_records.specs.rules.Lists.{each, every, padded, pick, put, select}
+use Rattle.block_records.specs.rules.Lists.{padded, put}
 
 -- a count, or the number of places where it is past them, is within the places
-pub within_few : (size n : ℕ) → pick (ltb n size) n size ≤ size
+pub within_few : (size n : ℕ) → cond (ltb n size) n size ≤ size
 within_few size n = on (ltb n size) (λ t. rw t (let m = ltb-true n size t in omega arith)) (λ t. rw t (le_refl size))
 
 module _ {A : Type 0} where
   -- what holds of all holds at each place
-  pub all_get_d : (p : A → Bool) (xs : List A) (i : ℕ) (d : A) → every p xs ≡ true → i < length xs → p (get_or xs i d) ≡ true
+  pub all_get_d : (p : A → Bool) (xs : List A) (i : ℕ) (d : A) → list_all p xs ≡ true → i < length xs → p (get_or xs i d) ≡ true
   all_get_d p [] i d e h = absurd (omega arith)
-  all_get_d p (x ∷ xs) zero d e h = and_left (p x) (every p xs) e
-  all_get_d p (x ∷ xs) (suc i) d e h = all_get_d p xs i d (and_right (p x) (every p xs) e) (omega arith)
+  all_get_d p (x ∷ xs) zero d e h = and_left (p x) (list_all p xs) e
+  all_get_d p (x ∷ xs) (suc i) d e h = all_get_d p xs i d (and_right (p x) (list_all p xs) e) (omega arith)
 
   -- within the list the default does not matter
   pub get_d_any : (xs : List A) (i : ℕ) (d e : A) → i < length xs → get_or xs i d ≡ get_or xs i e
@@ -37,13 +39,13 @@ module _ {A : Type 0} where
   -- ===== the first places =====
 
   -- a count past the places is the number of places
-  pub take_within : (size n : ℕ) (xs : List A) → length xs ≡ size → take (pick (ltb n size) n size) xs ≡ take n xs
+  pub take_within : (size n : ℕ) (xs : List A) → length xs ≡ size → take (cond (ltb n size) n size) xs ≡ take n xs
   take_within size n xs l =
       on (ltb n size) (λ t. rw t)
       (λ t. rw t (let m = ltb-false n size t in take_all size xs (omega arith) ∙ sym (take_all n xs (omega arith))))
 
   -- the first n elements are n, or all
-  pub length_within : (size n : ℕ) (xs : List A) → length xs ≡ size → length (take n xs) ≡ pick (ltb n size) n size
+  pub length_within : (size n : ℕ) (xs : List A) → length xs ≡ size → length (take n xs) ≡ cond (ltb n size) n size
   length_within size n xs l =
       on (ltb n size)
       (λ t. rw t (let m = ltb-true n size t in length-take-le n xs (omega arith)))
@@ -132,27 +134,27 @@ module _ {A : Type 0} (n : ℕ) (z : A) (l : List A) (len : length l ≡ n) (out
 
 module _ {A B : Type 0} where
   -- what stands at a place of the images
-  pub getD_each : (f : A → B) (xs : List A) (i : ℕ) (d : A) → get_or (each f xs) i (f d) ≡ f (get_or xs i d)
+  pub getD_each : (f : A → B) (xs : List A) (i : ℕ) (d : A) → get_or (map f xs) i (f d) ≡ f (get_or xs i d)
   getD_each f [] i d = refl
   getD_each f (x ∷ xs) zero d = refl
   getD_each f (x ∷ xs) (suc i) d = getD_each f xs i d
 
   -- as many images as elements taken
-  pub length_each_take : (f : A → B) (k : ℕ) (xs : List A) → k ≤ length xs → length (each f (take k xs)) ≡ k
+  pub length_each_take : (f : A → B) (k : ℕ) (xs : List A) → k ≤ length xs → length (map f (take k xs)) ≡ k
   length_each_take f k xs l = length_each f (take k xs) ∙ length-take-le k xs l
 
   -- ===== a loop that fills an array with f of the first k elements of xs, at place i =====
 
-  module _ (f : A → B) (n : ℕ) (z : B) (k : ℕ) (xs : List A) (out : List B) (i : ℕ) (l : k ≤ length xs) (b : k ≤ n) (o : out ≡ padded n z (take i (each f (take k xs)))) where
+  module _ (f : A → B) (n : ℕ) (z : B) (k : ℕ) (xs : List A) (out : List B) (i : ℕ) (l : k ≤ length xs) (b : k ≤ n) (o : out ≡ padded n z (take i (map f (take k xs)))) where
     -- one turn
-    pub each_next : (v : B) (d : A) → v ≡ f (get_or xs i d) → i < k → set out i v ≡ padded n z (take (i + 1) (each f (take k xs)))
+    pub each_next : (v : B) (d : A) → v ≡ f (get_or xs i d) → i < k → set out i v ≡ padded n z (take (i + 1) (map f (take k xs)))
     each_next v d e h =
         let m = length_each_take f k xs l in
-        fill_next n z (each f (take k xs)) out i v (f d) o (e ∙ sym (getD_each f (take k xs) i d ∙ ap f (get_or-take k xs i d h))) (omega arith) (omega arith)
+        fill_next n z (map f (take k xs)) out i v (f d) o (e ∙ sym (getD_each f (take k xs) i d ∙ ap f (get_or-take k xs i d h))) (omega arith) (omega arith)
 
     -- the loop ends
-    pub each_end : k ≤ i → out ≡ padded n z (each f (take k xs))
-    each_end h = let m = length_each_take f k xs l in fill_end n z (each f (take k xs)) out i o (omega arith)
+    pub each_end : k ≤ i → out ≡ padded n z (map f (take k xs))
+    each_end h = let m = length_each_take f k xs l in fill_end n z (map f (take k xs)) out i o (omega arith)
 
 -- ===== one element for those from place `at` up to `from` =====
 
@@ -229,10 +231,10 @@ module _ {A : Type 0} (size : ℕ) (z : A) (at from : ℕ) (a : A) (l : List A) 
 
 -- the loop begins; c is the count, of which k are listed
 module _ {A : Type 0} (size : ℕ) (z : A) (at from : ℕ) (a : A) (l : List A) (c : ℕ) (p : Splices size at from (length (take c l))) (long : length l ≡ size) where
-  pub splices_listed : Splices size at from (pick (ltb c size) c size)
+  pub splices_listed : Splices size at from (cond (ltb c size) c size)
   splices_listed = subst (Splices size at from) (length_within size c l long) p
 
-  pub splice_start : (k : ℕ) → k ≡ pick (ltb c size) c size → Splicing size z at from a l k (at + 1 + (k - from)) 0 (replicate size z)
+  pub splice_start : (k : ℕ) → k ≡ cond (ltb c size) c size → Splicing size z at from a l k (at + 1 + (k - from)) 0 (replicate size z)
   splice_start k e =
       record {
         few = rw e (within_few size c);
@@ -317,7 +319,7 @@ module _ {A : Type 0} where
   flagged_padded n ks xs = flagged_append ks (n - length ks) xs
 
   -- flags by a test of the first c: those that pass
-  pub flagged_select : (p : A → Bool) (c : ℕ) (xs : List A) → flagged (each p (take c xs)) xs ≡ select p (take c xs)
+  pub flagged_select : (p : A → Bool) (c : ℕ) (xs : List A) → flagged (map p (take c xs)) xs ≡ filter p (take c xs)
   flagged_select p zero xs = refl
   flagged_select p (suc c) [] = refl
   flagged_select p (suc c) (x ∷ xs) = rw (flagged_select p c xs)
@@ -325,27 +327,27 @@ module _ {A : Type 0} where
 -- ===== `each` of a list so changed =====
 
 module _ {A B : Type 0} (f : A → B) where
-  pub each_append : (xs ys : List A) → each f (xs ++ ys) ≡ each f xs ++ each f ys
+  pub each_append : (xs ys : List A) → map f (xs ++ ys) ≡ map f xs ++ map f ys
   each_append [] ys = refl
   each_append (x ∷ xs) ys = ap (λ (r : List B). f x ∷ r) (each_append xs ys)
 
-  pub each_take : (n : ℕ) (xs : List A) → each f (take n xs) ≡ take n (each f xs)
+  pub each_take : (n : ℕ) (xs : List A) → map f (take n xs) ≡ take n (map f xs)
   each_take zero xs = refl
   each_take (suc n) [] = refl
   each_take (suc n) (x ∷ xs) = ap (λ (r : List B). f x ∷ r) (each_take n xs)
 
-  each_drop : (n : ℕ) (xs : List A) → each f (drop n xs) ≡ drop n (each f xs)
+  each_drop : (n : ℕ) (xs : List A) → map f (drop n xs) ≡ drop n (map f xs)
   each_drop zero xs = refl
   each_drop (suc n) [] = refl
   each_drop (suc n) (x ∷ xs) = each_drop n xs
 
   -- the images of a list with one element put in
-  pub each_spliced : (at from : ℕ) (a : A) (xs : List A) → each f (spliced at from a xs) ≡ spliced at from (f a) (each f xs)
+  pub each_spliced : (at from : ℕ) (a : A) (xs : List A) → map f (spliced at from a xs) ≡ spliced at from (f a) (map f xs)
   each_spliced at from a xs = each_append (take at xs) (a ∷ drop from xs) ∙ rw (each_take at xs, each_drop from xs)
 
   -- an order of the images that says what an order of the elements says
   pub each_put : (lt : A → A → Bool) (lt' : B → B → Bool) → ((x y : A) → lt' (f x) (f y) ≡ lt x y) → (a : A) (xs : List A) →
-      put lt' (f a) (each f xs) ≡ each f (put lt a xs)
+      put lt' (f a) (map f xs) ≡ map f (put lt a xs)
   each_put lt lt' same a [] = refl
   each_put lt lt' same a (x ∷ xs) =
       on (lt a x)
@@ -353,7 +355,7 @@ module _ {A B : Type 0} (f : A → B) where
       (λ t. rw (same a x, t, same x a) (on (lt x a) (λ u. rw u (ap (λ (r : List B). f x ∷ r) (each_put lt lt' same a xs))) (λ u. rw u)))
 
   -- a test of the images that says what a test of the elements says
-  pub each_select : (p : A → Bool) (q : B → Bool) → ((x : A) → q (f x) ≡ p x) → (xs : List A) → select q (each f xs) ≡ each f (select p xs)
+  pub each_select : (p : A → Bool) (q : B → Bool) → ((x : A) → q (f x) ≡ p x) → (xs : List A) → filter q (map f xs) ≡ map f (filter p xs)
   each_select p q same [] = refl
   each_select p q same (x ∷ xs) =
       on (p x)
@@ -361,6 +363,6 @@ module _ {A B : Type 0} (f : A → B) where
       (λ t. rw (same x, t) (each_select p q same xs))
 
 -- images of images
-pub each_each : {A B C : Type 0} (f : B → C) (g : A → B) (xs : List A) → each f (each g xs) ≡ each (λ (x : A). f (g x)) xs
+pub each_each : {A B C : Type 0} (f : B → C) (g : A → B) (xs : List A) → map f (map g xs) ≡ map (λ (x : A). f (g x)) xs
 each_each f g [] = refl
 each_each {C = C} f g (x ∷ xs) = ap (λ (r : List C). f (g x) ∷ r) (each_each f g xs)

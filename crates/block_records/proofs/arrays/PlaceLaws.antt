@@ -1,8 +1,9 @@
 -- A place in a list, over any element type: one turn of a search; an element is put at the place that is found, and what is the same stands there.
 -- Assumes nothing.
+use Rattle.std.specs.List.{list_all, find}
+use Rattle.std.specs.Prelude.{Option, None, Some, map, cond, Err, Ok, Result}
 use mathlib.Core.Bool.{Bool, false, not, true}
 use mathlib.Core.List.{List, [], ◌∷◌}
-use mathlib.Core.Option.{Option, none, some}
 use mathlib.Core.Path.{◌∙◌, ◌≡◌, ap, refl}
 use Prim.Native.Nat.{◌+◌, ◌<◌, ◌≤◌, suc, suc-le-suc, ℕ}
 use native.Mathlib.Numerals.{add-one}
@@ -10,15 +11,13 @@ use native.Mathlib.Omega.{arith}
 use borrow.Author.Tests.{le-leb, lt-leb}
 use lib.Dec.{leb}
 use lib.ListN.{get_or, length, take}
-use Rattle.block_records.specs.declared.place.Place.{Place}
-use Rattle.block_records.specs.declared.place.Place.TheVariants.{At as place_at, Vacant as vacant_at}
 use Rattle.block_records.proofs.arrays.ArrayLaws.{length_spliced}
 use Rattle.block_records.proofs.arrays.LoopLaws.{left, left_more, left_passed, left_start}
 use Rattle.block_records.proofs.rules.ListLaws.{every_weaken}
 use Rattle.block_records.proofs.rules.Tests.{and_left, and_right, not_true, on}
 use Rattle.block_records.specs.arrays.Arrays.{Splices, spliced}
 use Rattle.block_records.specs.arrays.Place.{place, place_from}
-use Rattle.block_records.specs.rules.Lists.{each, every, find, pick, put, rising}
+use Rattle.block_records.specs.rules.Lists.{put, rising}
 
 -- ===== one turn of a search, at place i of the first `count` =====
 
@@ -27,13 +26,13 @@ module _ {A : Type 0} (below same : A → Bool) (d : A) (l : List A) (count i : 
       place_from below same i (left l count i) ≡ place_from below same (i + 1) (left l count (i + 1))
   place_next h k e = rw (left_more l count i d h k, e, add-one)
 
-  pub place_found : i < length l → i < count → below (get_or l i d) ≡ false → same (get_or l i d) ≡ true → place_from below same i (left l count i) ≡ place_at i
+  pub place_found : i < length l → i < count → below (get_or l i d) ≡ false → same (get_or l i d) ≡ true → place_from below same i (left l count i) ≡ Ok i
   place_found h k e f = rw (left_more l count i d h k, e, f)
 
-  pub place_gap : i < length l → i < count → below (get_or l i d) ≡ false → same (get_or l i d) ≡ false → place_from below same i (left l count i) ≡ vacant_at i
+  pub place_gap : i < length l → i < count → below (get_or l i d) ≡ false → same (get_or l i d) ≡ false → place_from below same i (left l count i) ≡ Err i
   place_gap h k e f = rw (left_more l count i d h k, e, f)
 
-  pub place_passed : count ≤ i → place_from below same i (left l count i) ≡ vacant_at i
+  pub place_passed : count ≤ i → place_from below same i (left l count i) ≡ Err i
   place_passed h = rw (left_passed l count i h)
 
 pub place_start : {A : Type 0} (below same : A → Bool) (l : List A) (count : ℕ) → place below same (take count l) ≡ place_from below same 0 (left l count 0)
@@ -43,9 +42,9 @@ place_start below same l count = rw (left_start l count)
 -- ===== the place by the list's first element =====
 
 -- one place further
-abbrev pub next_place : Place → Place
-next_place (place_at k) = place_at (suc k)
-next_place (vacant_at k) = vacant_at (suc k)
+abbrev pub next_place : (Result ℕ ℕ) → (Result ℕ ℕ)
+next_place (Ok k) = Ok (suc k)
+next_place (Err k) = Err (suc k)
 
 place_further : {A : Type 0} (below same : A → Bool) (i : ℕ) (xs : List A) → place_from below same (suc i) xs ≡ next_place (place_from below same i xs)
 place_further below same i [] = refl
@@ -53,18 +52,18 @@ place_further below same i (x ∷ xs) =
     on (below x) (λ t. rw t (place_further below same (suc i) xs)) (λ t. rw t (on (same x) (λ u. rw u) (λ u. rw u)))
 
 pub place_cons : {A : Type 0} (below same : A → Bool) (x : A) (xs : List A) →
-    place below same (x ∷ xs) ≡ pick (below x) (next_place (place below same xs)) (pick (same x) (place_at 0) (vacant_at 0))
+    place below same (x ∷ xs) ≡ cond (below x) (next_place (place below same xs)) (cond (same x) (Ok 0) (Err 0))
 unfolding place
 place_cons below same x xs = rw (place_further below same 0 xs)
 
 -- a place of a list of n elements
-abbrev Within : ℕ → Place → Type 0
-Within n (place_at k) = k < n
-Within n (vacant_at k) = k ≤ n
+abbrev Within : ℕ → (Result ℕ ℕ) → Type 0
+Within n (Ok k) = k < n
+Within n (Err k) = k ≤ n
 
-within_next : (n : ℕ) (f : Place) → Within n f → Within (suc n) (next_place f)
-within_next n (place_at k) h = suc-le-suc h
-within_next n (vacant_at k) h = suc-le-suc h
+within_next : (n : ℕ) (f : (Result ℕ ℕ)) → Within n f → Within (suc n) (next_place f)
+within_next n (Ok k) h = suc-le-suc h
+within_next n (Err k) h = suc-le-suc h
 
 place_within : {A : Type 0} (below same : A → Bool) (xs : List A) → Within (length xs) (place_from below same 0 xs)
 place_within below same [] = omega arith
@@ -73,11 +72,11 @@ place_within below same (x ∷ xs) =
     (λ t. rw t (on (same x) (λ u. rw u (omega arith)) (λ u. rw u (omega arith))))
 
 module _ {A : Type 0} (below same : A → Bool) (xs : List A) (k : ℕ) where
-  pub at_within : place below same xs ≡ place_at k → k < length xs
+  pub at_within : place below same xs ≡ Ok k → k < length xs
   unfolding place
   at_within e = rw e at (place_within below same xs)
 
-  pub vacant_within : place below same xs ≡ vacant_at k → k ≤ length xs
+  pub vacant_within : place below same xs ≡ Err k → k ≤ length xs
   unfolding place
   vacant_within e = rw e at (place_within below same xs)
 
@@ -85,13 +84,13 @@ module _ {A : Type 0} (below same : A → Bool) (xs : List A) (k : ℕ) where
 
 module _ {A : Type 0} (lt : A → A → Bool) (a : A) (same : A → Bool) (once : (x : A) → lt x a ≡ true → lt a x ≡ false)
     (level : (x : A) → lt x a ≡ false → same x ≡ not (lt a x)) where
-  abbrev put_at : Place → List A → List A
-  put_at (place_at k) xs = spliced k (k + 1) a xs
-  put_at (vacant_at k) xs = spliced k k a xs
+  abbrev put_at : (Result ℕ ℕ) → List A → List A
+  put_at (Ok k) xs = spliced k (k + 1) a xs
+  put_at (Err k) xs = spliced k k a xs
 
-  put_further : (f : Place) (x : A) (xs : List A) → put_at (next_place f) (x ∷ xs) ≡ x ∷ put_at f xs
-  put_further (place_at k) x xs = rw (add-one (suc k), add-one k)
-  put_further (vacant_at k) x xs = refl
+  put_further : (f : (Result ℕ ℕ)) (x : A) (xs : List A) → put_at (next_place f) (x ∷ xs) ≡ x ∷ put_at f xs
+  put_further (Ok k) x xs = rw (add-one (suc k), add-one k)
+  put_further (Err k) x xs = refl
 
   put_placed : (xs : List A) → put lt a xs ≡ put_at (place_from (λ (x : A). lt x a) same 0 xs) xs
   put_placed [] = refl
@@ -106,13 +105,13 @@ module _ {A : Type 0} (lt : A → A → Bool) (a : A) (same : A → Bool) (once 
       after t = rw (t, level x t) (on (lt a x) (λ u. rw u) (λ u. rw u))
 
   module _ (xs : List A) (k : ℕ) where
-    pub put_replaces : place (λ (x : A). lt x a) same xs ≡ place_at k → put lt a xs ≡ spliced k (k + 1) a xs
+    pub put_replaces : place (λ (x : A). lt x a) same xs ≡ Ok k → put lt a xs ≡ spliced k (k + 1) a xs
     unfolding place
-    put_replaces e = put_placed xs ∙ ap (λ (f : Place). put_at f xs) e
+    put_replaces e = put_placed xs ∙ ap (λ (f : (Result ℕ ℕ)). put_at f xs) e
 
-    pub put_inserts : place (λ (x : A). lt x a) same xs ≡ vacant_at k → put lt a xs ≡ spliced k k a xs
+    pub put_inserts : place (λ (x : A). lt x a) same xs ≡ Err k → put lt a xs ≡ spliced k k a xs
     unfolding place
-    put_inserts e = put_placed xs ∙ ap (λ (f : Place). put_at f xs) e
+    put_inserts e = put_placed xs ∙ ap (λ (f : (Result ℕ ℕ)). put_at f xs) e
 
 -- ===== and whether it has a place among `size` =====
 
@@ -135,32 +134,32 @@ module _ {A : Type 0} (size : ℕ) (a : A) (xs : List A) (few : length xs ≤ si
 -- ===== what stands at the place that is found =====
 
 module _ {A : Type 0} (below same : A → Bool) where
-  abbrev pub element_at : A → Place → List A → Option A
-  element_at d (place_at k) xs = some (get_or xs k d)
-  element_at d (vacant_at k) xs = none
+  abbrev pub element_at : A → (Result ℕ ℕ) → List A → Option A
+  element_at d (Ok k) xs = Some (get_or xs k d)
+  element_at d (Err k) xs = None
 
-  at_further : (d : A) (f : Place) (x : A) (xs : List A) → element_at d (next_place f) (x ∷ xs) ≡ element_at d f xs
-  at_further d (place_at k) x xs = refl
-  at_further d (vacant_at k) x xs = refl
+  at_further : (d : A) (f : (Result ℕ ℕ)) (x : A) (xs : List A) → element_at d (next_place f) (x ∷ xs) ≡ element_at d f xs
+  at_further d (Ok k) x xs = refl
+  at_further d (Err k) x xs = refl
 
   -- none further on, where none can be
-  none_after : (xs : List A) → every (λ (x : A). not (same x)) xs ≡ true → find same xs ≡ none
+  none_after : (xs : List A) → list_all (λ (x : A). not (same x)) xs ≡ true → find same xs ≡ None
   none_after [] h = refl
   none_after (x ∷ xs) h =
-      rw (not_true (same x) (and_left (not (same x)) (every (λ (x : A). not (same x)) xs) h))
-      (none_after xs (and_right (not (same x)) (every (λ (x : A). not (same x)) xs) h))
+      rw (not_true (same x) (and_left (not (same x)) (list_all (λ (x : A). not (same x)) xs) h))
+      (none_after xs (and_right (not (same x)) (list_all (λ (x : A). not (same x)) xs) h))
 
   module _ (lt : A → A → Bool) (apart : (x : A) → below x ≡ true → same x ≡ false)
       (above : (x y : A) → below x ≡ false → same x ≡ false → lt x y ≡ true → not (same y) ≡ true) where
     finds_from : (d : A) (xs : List A) → rising lt xs ≡ true → find same xs ≡ element_at d (place_from below same 0 xs) xs
     finds_from d [] r = refl
     finds_from d (x ∷ xs) r =
-        let ih = finds_from d xs (and_right (every (lt x) xs) (rising lt xs) r) in
+        let ih = finds_from d xs (and_right (list_all (lt x) xs) (rising lt xs) r) in
         on (below x)
         (λ t. rw (t, apart x t, place_further below same 0 xs, at_further d (place_from below same 0 xs) x xs) ih)
         (λ t. rw t
         (on (same x) (λ u. rw u)
-        (λ u. rw u (none_after xs (every_weaken (lt x) (λ (y : A). not (same y)) xs (λ y l. above x y t u l) (and_left (every (lt x) xs) (rising lt xs) r))))))
+        (λ u. rw u (none_after xs (every_weaken (lt x) (λ (y : A). not (same y)) xs (λ y l. above x y t u l) (and_left (list_all (lt x) xs) (rising lt xs) r))))))
 
     -- in a rising list the first that is the same stands there
     pub place_finds : (d : A) (xs : List A) → rising lt xs ≡ true → find same xs ≡ element_at d (place below same xs) xs
@@ -170,11 +169,11 @@ module _ {A : Type 0} (below same : A → Bool) where
 -- ===== in a list that is made of another =====
 
 module _ {A B : Type 0} (f : A → B) where
-  each_from : (below same : B → Bool) (i : ℕ) (xs : List A) → place_from below same i (each f xs) ≡ place_from (λ (x : A). below (f x)) (λ (x : A). same (f x)) i xs
+  each_from : (below same : B → Bool) (i : ℕ) (xs : List A) → place_from below same i (map f xs) ≡ place_from (λ (x : A). below (f x)) (λ (x : A). same (f x)) i xs
   each_from below same i [] = refl
   each_from below same i (x ∷ xs) =
       on (below (f x)) (λ t. rw t (each_from below same (suc i) xs)) (λ t. rw t)
 
-  pub place_each : (below same : B → Bool) (xs : List A) → place below same (each f xs) ≡ place (λ (x : A). below (f x)) (λ (x : A). same (f x)) xs
+  pub place_each : (below same : B → Bool) (xs : List A) → place below same (map f xs) ≡ place (λ (x : A). below (f x)) (λ (x : A). same (f x)) xs
   unfolding place
   place_each below same xs = each_from below same 0 xs

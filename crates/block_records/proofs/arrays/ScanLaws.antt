@@ -1,8 +1,9 @@
 -- Loops over the first places of an array, over any element type: a search, a test of neighbours, those that pass moved together, one put in where it stands.
 -- Assumes nothing.
+use Rattle.std.specs.List.{list_all, find}
+use Rattle.std.specs.Prelude.{Some, cond, is_some, filter}
 use mathlib.Core.Bool.{Bool, ◌&&◌, ◌||◌, false, true}
 use mathlib.Core.List.{List, [], ◌++◌, ◌∷◌, append_assoc, append-nil}
-use mathlib.Core.Option.{some}
 use mathlib.Core.Path.{◌∙◌, ◌≡◌, ap, ap₂, refl, sym}
 use Prim.Native.Nat.{◌+◌, ◌-◌, ◌<◌, ◌≤◌, suc, zero, ℕ}
 use native.Mathlib.Nat.{le_refl}
@@ -17,7 +18,7 @@ use Rattle.block_records.proofs.arrays.LoopLaws.{left, left_more, left_over, lef
 use Rattle.block_records.proofs.rules.ListLaws.{Order, every_weaken}
 use Rattle.block_records.proofs.rules.Tests.{and_intro, and_left, and_right, iff_same, on}
 use Rattle.block_records.specs.arrays.Arrays.{overwritten, spliced}
-use Rattle.block_records.specs.rules.Lists.{every, find, last, padded, pick, present, put, rising, select}
+use Rattle.block_records.specs.rules.Lists.{last, padded, put, rising}
 
 -- ===== the first places =====
 
@@ -27,13 +28,13 @@ module _ {A : Type 0} where
   few_listed size n xs l =
       rw (length_within size n xs l) (on (ltb n size) (λ t. rw t t) (λ t. rw t (le-ltb size size (le_refl size))))
 
-  last_snoc : (xs : List A) (a : A) → last (xs ++ (a ∷ [])) ≡ some a
+  last_snoc : (xs : List A) (a : A) → last (xs ++ (a ∷ [])) ≡ Some a
   last_snoc [] a = refl
   last_snoc (x ∷ []) a = refl
   last_snoc (x ∷ y ∷ ys) a = last_snoc (y ∷ ys) a
 
   -- the last of the first n
-  pub last_take : (xs : List A) (n : ℕ) (d : A) → 0 < n → n ≤ length xs → last (take n xs) ≡ some (get_or xs (n - 1) d)
+  pub last_take : (xs : List A) (n : ℕ) (d : A) → 0 < n → n ≤ length xs → last (take n xs) ≡ Some (get_or xs (n - 1) d)
   last_take xs n d p h =
       let k : n ≡ n - 1 + 1 = omega arith in
       let e : take n xs ≡ take (n - 1) xs ++ (get_or xs (n - 1) d ∷ []) = ap (λ (j : ℕ). take j xs) k ∙ take_more xs (n - 1) d (omega arith) in
@@ -43,26 +44,26 @@ module _ {A : Type 0} where
 
 module _ {A : Type 0} (p : A → Bool) (d : A) (l : List A) (count i : ℕ) where
   -- this one does not pass
-  pub any_next : i < length l → i < count → p (get_or l i d) ≡ false → present (find p (left l count i)) ≡ present (find p (left l count (i + 1)))
+  pub any_next : i < length l → i < count → p (get_or l i d) ≡ false → is_some (find p (left l count i)) ≡ is_some (find p (left l count (i + 1)))
   any_next h k e = rw (left_more l count i d h k, e)
 
   -- this one passes
-  pub any_stop : i < length l → i < count → p (get_or l i d) ≡ true → present (find p (left l count i)) ≡ true
+  pub any_stop : i < length l → i < count → p (get_or l i d) ≡ true → is_some (find p (left l count i)) ≡ true
   any_stop h k e = rw (left_more l count i d h k, e)
 
   -- none of them passed
-  pub any_passed : count ≤ i → present (find p (left l count i)) ≡ false
+  pub any_passed : count ≤ i → is_some (find p (left l count i)) ≡ false
   any_passed h = rw (left_passed l count i h)
 
 module _ {A : Type 0} (p : A → Bool) where
   -- one element more
-  pub any_snoc : (xs : List A) (a : A) → present (find p (xs ++ (a ∷ []))) ≡ present (find p xs) || p a
+  pub any_snoc : (xs : List A) (a : A) → is_some (find p (xs ++ (a ∷ []))) ≡ is_some (find p xs) || p a
   any_snoc [] a = on (p a) (λ t. rw t) (λ t. rw t)
   any_snoc (x ∷ xs) a = on (p x) (λ t. rw t) (λ t. rw t (any_snoc xs a))
 
   -- .. of the first places; d is any element
-  pub any_more : (xs : List A) (i : ℕ) (d : A) → i < length xs → present (find p (take i xs)) || p (get_or xs i d) ≡ present (find p (take (i + 1) xs))
-  any_more xs i d h = sym (ap (λ (l : List A). present (find p l)) (take_more xs i d h) ∙ any_snoc (take i xs) (get_or xs i d))
+  pub any_more : (xs : List A) (i : ℕ) (d : A) → i < length xs → is_some (find p (take i xs)) || p (get_or xs i d) ≡ is_some (find p (take (i + 1) xs))
+  any_more xs i d h = sym (ap (λ (l : List A). is_some (find p l)) (take_more xs i d h) ∙ any_snoc (take i xs) (get_or xs i d))
 
 -- ===== a test that each element comes before the next =====
 
@@ -81,8 +82,8 @@ module _ {A : Type 0} (lt : A → A → Bool) where
       yes : lt x y ≡ true → rising lt (x ∷ y ∷ ys) ≡ lt x y && rising lt (y ∷ ys)
       yes t =
           rw t
-          (iff_same (every (lt x) ys && rising lt (y ∷ ys)) (rising lt (y ∷ ys)) (and_right (every (lt x) ys) (rising lt (y ∷ ys)))
-          (λ h. and_intro (every_weaken (lt y) (lt x) ys (λ z l. o.trans x y z t l) (and_left (every (lt y) ys) (rising lt ys) h)) h))
+          (iff_same (list_all (lt x) ys && rising lt (y ∷ ys)) (rising lt (y ∷ ys)) (and_right (list_all (lt x) ys) (rising lt (y ∷ ys)))
+          (λ h. and_intro (every_weaken (lt y) (lt x) ys (λ z l. o.trans x y z t l) (and_left (list_all (lt y) ys) (rising lt ys) h)) h))
 
   module _ (d : A) (l : List A) (count i : ℕ) where
     pair_next : 0 < i → i < length l → i < count → neighbours (left l count (i - 1)) ≡ lt (get_or l (i - 1) d) (get_or l i d) && neighbours (left l count i)
@@ -121,22 +122,22 @@ module _ {A : Type 0} (lt : A → A → Bool) where
 -- ===== a loop that moves the elements that pass together: after the first i of l, n are in `out` =====
 
 module _ {A : Type 0} (p : A → Bool) where
-  select_suc : (l : List A) (i : ℕ) (d : A) → i < length l → select p (take (suc i) l) ≡ select p (take i l) ++ pick (p (get_or l i d)) (get_or l i d ∷ []) []
+  select_suc : (l : List A) (i : ℕ) (d : A) → i < length l → filter p (take (suc i) l) ≡ filter p (take i l) ++ cond (p (get_or l i d)) (get_or l i d ∷ []) []
   select_suc [] i d h = absurd (omega arith)
   select_suc (x ∷ xs) zero d h = refl
   select_suc (x ∷ xs) (suc i) d h = let ih = select_suc xs i d (omega arith) in on (p x) (λ t. rw (t, ih)) (λ t. rw (t, ih))
 
-  select_yes : (l : List A) (i : ℕ) (d : A) → i < length l → p (get_or l i d) ≡ true → select p (take (i + 1) l) ≡ select p (take i l) ++ (get_or l i d ∷ [])
+  select_yes : (l : List A) (i : ℕ) (d : A) → i < length l → p (get_or l i d) ≡ true → filter p (take (i + 1) l) ≡ filter p (take i l) ++ (get_or l i d ∷ [])
   select_yes l i d h e = rw add-one (rw e at (select_suc l i d h))
 
-  select_no : (l : List A) (i : ℕ) (d : A) → i < length l → p (get_or l i d) ≡ false → select p (take (i + 1) l) ≡ select p (take i l)
+  select_no : (l : List A) (i : ℕ) (d : A) → i < length l → p (get_or l i d) ≡ false → filter p (take (i + 1) l) ≡ filter p (take i l)
   select_no l i d h e = rw add-one (select_suc l i d h ∙ rw (e, append-nil))
 
   -- where the loop stands
   pub record RetainedSoFar (size : ℕ) (z : A) (l : List A) (i n : ℕ) (out : List A) : Type 0 where
     pub few : n ≤ i
-    pub count : n ≡ length (select p (take i l))
-    pub places : out ≡ padded size z (select p (take i l))
+    pub count : n ≡ length (filter p (take i l))
+    pub places : out ≡ padded size z (filter p (take i l))
 
   -- before the first turn
   pub retain_start : (size : ℕ) (z : A) (l : List A) → RetainedSoFar size z l 0 0 (replicate size z)
@@ -151,7 +152,7 @@ module _ {A : Type 0} (p : A → Bool) where
         record {
           few = omega arith;
           count = rw (q, length-append, ← c.count);
-          places = rw (c.places, q) (set_padded size z (select p (take i l)) n (get_or l i d) (sym c.count) (omega arith));
+          places = rw (c.places, q) (set_padded size z (filter p (take i l)) n (get_or l i d) (sym c.count) (omega arith));
         }
 
     -- this one does not
@@ -162,7 +163,7 @@ module _ {A : Type 0} (p : A → Bool) where
         record { few = omega arith; count = rw q c.count; places = rw q c.places }
 
     -- after k turns
-    pub retain_end : (k : ℕ) → i ≡ k → (n ≡ length (select p (take k l))) × (out ≡ padded size z (select p (take k l)))
+    pub retain_end : (k : ℕ) → i ≡ k → (n ≡ length (filter p (take k l))) × (out ≡ padded size z (filter p (take k l)))
     retain_end k e = (rw e at c.count, rw e at c.places)
 
 -- ===== a loop that moves those from place `at` on one place further, from the last on down; it has come to place j =====

@@ -1,5 +1,8 @@
 -- Each test of equality of the records decides equality.
 -- Assumes nothing.
+use Rattle.std.specs.Option.{option_eq}
+use Rattle.std.specs.Prelude.{None, Option, Some}
+use lib.Pointwise.{pointwise}
 use mathlib.Core.Bool.{Bool, beq, ◌&&◌, false, true}
 use mathlib.Core.List.{List, [], ◌∷◌}
 use mathlib.Core.Logic.{◌↔◌}
@@ -15,17 +18,13 @@ use Rattle.block_records.specs.declared.entry.BlockCacheEntryData.{BlockCacheEnt
 use Rattle.block_records.specs.declared.entry.BlockCacheEntryData.TheVariants.{Collated as collated, Received as received}
 use Rattle.block_records.specs.declared.entry.CandidateStatus.{CandidateStatus}
 use Rattle.block_records.specs.declared.entry.CandidateStatus.TheVariants.{Collated, Synced, Validated, ValidationSkipped}
-use Rattle.block_records.specs.declared.store_records.Anchor.{Anchor}
-use Rattle.block_records.specs.declared.store_records.Anchor.TheVariants.{Absent, At}
-use Rattle.block_records.specs.declared.store_records.PrevIds.{PrevIds}
 use Rattle.block_records.specs.declared.top_block.TopBlock.{TopBlock}
-use Rattle.block_records.specs.declared.top_block.TopBlocks.{TopBlocks}
+use Rattle.block_records.specs.layout.Listed.{PrevIds, TopBlocks}
 use Rattle.block_records.proofs.rules.BlockIdLaws.{id_order, key_path, shard_order}
 use Rattle.block_records.proofs.rules.Tests.{absurd_eq, and_left, and_right}
 use Rattle.block_records.specs.layout.Equality.{same_anchor, same_entry, same_kind, same_prev_ids, same_top, same_tops}
 use Rattle.block_records.specs.rules.BlockId.{key_shard, same_id, same_key, same_shard}
 use Rattle.block_records.specs.rules.Entry.{same_status, status_number}
-use Rattle.block_records.specs.rules.Lists.{same_list}
 use Rattle.block_records.specs.rules.Order.{IsSame}
 
 -- ===== from the parts to the whole =====
@@ -43,18 +42,18 @@ pub pair_same : {K L : Type 0} {s₁ : K → K → Bool} {s₂ : L → L → Boo
 pair_same {K} {L} d₁ d₂ = both_same (λ (a : K × L). a.0) (λ (a : K × L). a.1) (λ a b p q. λ i. (p i, q i)) d₁ d₂
 
 module _ {A : Type 0} (same : A → A → Bool) where
-  list_eq : ((a b : A) → same a b ≡ true → a ≡ b) → (a b : List A) → same_list same a b ≡ true → a ≡ b
+  list_eq : ((a b : A) → same a b ≡ true → a ≡ b) → (a b : List A) → pointwise same a b ≡ true → a ≡ b
   list_eq h [] [] e = refl
   list_eq h [] (y ∷ ys) e = absurd_eq e
   list_eq h (x ∷ xs) [] e = absurd_eq e
   list_eq h (x ∷ xs) (y ∷ ys) e =
-      ap₂ ◌∷◌ (h x y (and_left (same x y) (same_list same xs ys) e)) (list_eq h xs ys (and_right (same x y) (same_list same xs ys) e))
+      ap₂ ◌∷◌ (h x y (and_left (same x y) (pointwise same xs ys) e)) (list_eq h xs ys (and_right (same x y) (pointwise same xs ys) e))
 
-  list_refl : ((a : A) → same a a ≡ true) → (a : List A) → same_list same a a ≡ true
+  list_refl : ((a : A) → same a a ≡ true) → (a : List A) → pointwise same a a ≡ true
   list_refl h [] = refl
   list_refl h (x ∷ xs) = rw (h x, list_refl h xs)
 
-pub list_same : {A : Type 0} {s : A → A → Bool} → IsSame s → IsSame (λ (a b : List A). same_list s a b)
+pub list_same : {A : Type 0} {s : A → A → Bool} → IsSame s → IsSame (λ (a b : List A). pointwise s a b)
 list_same {s = s} d = record { same_eq = list_eq s d.same_eq; same_refl = list_refl s d.same_refl }
 
 pub nat_same : IsSame eqb
@@ -91,24 +90,27 @@ top_same =
 
 pub prev_ids_same : IsSame same_prev_ids
 prev_ids_same =
-    both_same (λ (p : PrevIds). p.count) (λ (p : PrevIds). p.ids) (λ a b p q. λ i. record { ids = q i; count = p i }) nat_same (list_same id_same)
+    both_same (λ (p : PrevIds). p.count) (λ (p : PrevIds). p.items) (λ a b p q. λ i. record { count = p i; items = q i }) nat_same (list_same id_same)
 
 pub tops_same : IsSame same_tops
 tops_same =
-    both_same (λ (p : TopBlocks). p.count) (λ (p : TopBlocks). p.items) (λ a b p q. λ i. record { items = q i; count = p i }) nat_same (list_same top_same)
+    both_same (λ (p : TopBlocks). p.count) (λ (p : TopBlocks). p.items) (λ a b p q. λ i. record { count = p i; items = q i }) nat_same (list_same top_same)
 
-anchor_eq : (a b : Anchor) → same_anchor a b ≡ true → a ≡ b
-anchor_eq Absent Absent e = refl
-anchor_eq Absent (At y) e = absurd_eq e
-anchor_eq (At x) Absent e = absurd_eq e
-anchor_eq (At x) (At y) e = ap At (eqb-true x y e)
+option_eq_is : {A : Type 0} (same : A → A → Bool) → IsSame same → (a b : Option A) → option_eq same a b ≡ true → a ≡ b
+option_eq_is same d None None e = refl
+option_eq_is same d None (Some y) e = absurd_eq e
+option_eq_is same d (Some x) None e = absurd_eq e
+option_eq_is same d (Some x) (Some y) e = ap Some (d.same_eq x y e)
 
-anchor_refl : (a : Anchor) → same_anchor a a ≡ true
-anchor_refl Absent = refl
-anchor_refl (At x) = eq-eqb x x refl
+option_eq_refl : {A : Type 0} (same : A → A → Bool) → IsSame same → (a : Option A) → option_eq same a a ≡ true
+option_eq_refl same d None = refl
+option_eq_refl same d (Some x) = d.same_refl x
+
+pub option_same : {A : Type 0} (same : A → A → Bool) → IsSame same → IsSame (option_eq same)
+option_same same d = record { same_eq = option_eq_is same d; same_refl = option_eq_refl same d }
 
 pub anchor_same : IsSame same_anchor
-anchor_same = record { same_eq = anchor_eq; same_refl = anchor_refl }
+anchor_same = option_same eqb nat_same
 
 status_of : ℕ → CandidateStatus
 status_of zero = Collated
@@ -143,17 +145,17 @@ kind_eq (collated s r g w p) (collated s' r' g' w' p') e =
 kind_eq (collated s r g w p) (received c d) e = absurd_eq e
 kind_eq (received c d) (collated s r g w p) e = absurd_eq e
 kind_eq (received c d) (received c' d') e =
-    ap₂ received (bool_eq c c' (and_left (beq c c') (same_anchor d d') e)) (anchor_eq d d' (and_right (beq c c') (same_anchor d d') e))
+    ap₂ received (bool_eq c c' (and_left (beq c c') (same_anchor d d') e)) (anchor_same.same_eq d d' (and_right (beq c c') (same_anchor d d') e))
 
 kind_refl : (a : BlockCacheEntryData) → same_kind a a ≡ true
 kind_refl (collated s r g w p) = parts_same.same_refl (s, (r, (g, (w, p))))
-kind_refl (received c d) = rw (bool_refl c, anchor_refl d)
+kind_refl (received c d) = rw (bool_refl c, anchor_same.same_refl d)
 
 pub kind_same : IsSame same_kind
 kind_same = record { same_eq = kind_eq; same_refl = kind_refl }
 
 abbrev EntryRest : Type 0
-EntryRest = PrevIds × (Anchor × (ℕ × (ℕ × BlockCacheEntryData)))
+EntryRest = PrevIds × ((Option ℕ) × (ℕ × (ℕ × BlockCacheEntryData)))
 
 abbrev entry_rest : BlockCacheEntry → EntryRest
 entry_rest e = (e.prev_ids, (e.top_anchor, (e.ref_by_mc_seqno, (e.payload, e.«data»))))

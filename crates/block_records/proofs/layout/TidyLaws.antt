@@ -1,5 +1,8 @@
 -- A record is tidy exactly if its count is within its places and zeros stand in unused ones.
 -- Assumes nothing.
+use lib.Pointwise.{pointwise}
+use Rattle.std.specs.List.{list_all}
+use Rattle.std.specs.Prelude.{map}
 use mathlib.Core.Bool.{Bool, ◌&&◌, false, true}
 use mathlib.Core.List.{List, Memᴰ, [], ◌++◌, ◌∷◌}
 use mathlib.Core.Path.{◌∙◌, ◌≡◌, ap, ap₂, refl, sym}
@@ -10,16 +13,15 @@ use lib.Dec.{eqb, leb}
 use lib.ListN.{drop, length, replicate, take}
 use Rattle.block_records.specs.declared.block_id.BlockId.{BlockId}
 use Rattle.block_records.specs.declared.entry.BlockCacheEntry.{BlockCacheEntry}
-use Rattle.block_records.specs.declared.store_records.PrevIds.{PrevIds}
 use Rattle.block_records.specs.declared.top_block.TopBlock.{TopBlock}
-use Rattle.block_records.specs.declared.top_block.TopBlocks.{TopBlocks}
+use Rattle.block_records.specs.layout.Listed.{PrevIds, TopBlocks}
 use Rattle.block_records.proofs.layout.EqualityLaws.{anchor_same, entry_same, id_same, kind_same, nat_same, prev_ids_same, top_same, tops_same}
 use Rattle.block_records.proofs.rules.Tests.{and_intro, iff_same}
 use Rattle.block_records.specs.layout.Entry.{entry_tidy, pack_entry, pack_prev_ids, pack_tops, prev_ids_tidy, tops_tidy, view_entry, view_shard_entry}
 use Rattle.block_records.specs.layout.Equality.{same_entry, same_top}
 use Rattle.block_records.specs.layout.Zeros.{zero_id, zero_top}
 use Rattle.block_records.specs.rules.BlockId.{listed_prev_ids, listed_tops, same_id}
-use Rattle.block_records.specs.rules.Lists.{each, every, padded, same_list}
+use Rattle.block_records.specs.rules.Lists.{padded}
 use Rattle.block_records.specs.rules.Order.{IsSame}
 
 and_assoc : (a b c : Bool) → a && (b && c) ≡ (a && b) && c
@@ -31,15 +33,15 @@ and_true true = refl
 and_true false = refl
 
 module _ {A : Type 0} where
-  pub every_true : (p : A → Bool) (xs : List A) → ((x : A) → p x ≡ true) → every p xs ≡ true
+  pub every_true : (p : A → Bool) (xs : List A) → ((x : A) → p x ≡ true) → list_all p xs ≡ true
   every_true p [] h = refl
   every_true p (x ∷ xs) h = and_intro (h x) (every_true p xs h)
 
-  pub every_same : (p q : A → Bool) (xs : List A) → ((x : A) → Memᴰ x xs → p x ≡ q x) → every p xs ≡ every q xs
+  pub every_same : (p q : A → Bool) (xs : List A) → ((x : A) → Memᴰ x xs → p x ≡ q x) → list_all p xs ≡ list_all q xs
   every_same p q [] h = refl
   every_same p q (x ∷ xs) h = ap₂ ◌&&◌ (h x (Memᴰ.head refl)) (every_same p q xs (λ y u. h y (Memᴰ.tail u)))
 
-  each_same : (xs : List A) → each (λ (x : A). x) xs ≡ xs
+  each_same : (xs : List A) → map (λ (x : A). x) xs ≡ xs
   each_same [] = refl
   each_same (x ∷ xs) = ap (λ (r : List A). x ∷ r) (each_same xs)
 
@@ -64,41 +66,41 @@ module _ {A : Type 0} where
       from h = eq-eqb k (length (take k xs)) (full k xs (leb-true k (length xs) h))
 
   module _ (s : A → A → Bool) (z : A) where
-    same_zeros : (xs : List A) → same_list s xs (replicate (length xs) z) ≡ every (λ (x : A). s x z) xs
+    same_zeros : (xs : List A) → pointwise s xs (replicate (length xs) z) ≡ list_all (λ (x : A). s x z) xs
     same_zeros [] = refl
     same_zeros (x ∷ xs) = ap (λ (b : Bool). s x z && b) (same_zeros xs)
 
     -- an array of n places holds nothing but z
-    pub same_replicate : (n : ℕ) (xs : List A) → length xs ≡ n → same_list s xs (replicate n z) ≡ every (λ (x : A). s x z) xs
+    pub same_replicate : (n : ℕ) (xs : List A) → length xs ≡ n → pointwise s xs (replicate n z) ≡ list_all (λ (x : A). s x z) xs
     same_replicate n xs e = rw (← e) (same_zeros xs)
 
   module _ (s : A → A → Bool) (h : A → A) (z : A) where
-    appended : (k : ℕ) (xs : List A) → same_list s xs (each h (take k xs) ++ replicate (length xs - length (each h (take k xs))) z)
-        ≡ every (λ (x : A). s x (h x)) (take k xs) && every (λ (x : A). s x z) (drop k xs)
+    appended : (k : ℕ) (xs : List A) → pointwise s xs (map h (take k xs) ++ replicate (length xs - length (map h (take k xs))) z)
+        ≡ list_all (λ (x : A). s x (h x)) (take k xs) && list_all (λ (x : A). s x z) (drop k xs)
     appended zero xs = let e : length xs - 0 ≡ length xs = omega arith in rw e (same_zeros s z xs)
     appended (suc k) [] = refl
     appended (suc k) (x ∷ xs) =
-        let e : suc (length xs) - suc (length (each h (take k xs))) ≡ length xs - length (each h (take k xs)) = omega arith in
-        rw (e, appended k xs) (and_assoc (s x (h x)) (every (λ (x : A). s x (h x)) (take k xs)) (every (λ (x : A). s x z) (drop k xs)))
+        let e : suc (length xs) - suc (length (map h (take k xs))) ≡ length xs - length (map h (take k xs)) = omega arith in
+        rw (e, appended k xs) (and_assoc (s x (h x)) (list_all (λ (x : A). s x (h x)) (take k xs)) (list_all (λ (x : A). s x z) (drop k xs)))
 
     -- an array of n places is the packing of its first k, each made anew by h
     pub same_padded : (n k : ℕ) (xs : List A) → length xs ≡ n →
-        same_list s xs (padded n z (each h (take k xs))) ≡ every (λ (x : A). s x (h x)) (take k xs) && every (λ (x : A). s x z) (drop k xs)
+        pointwise s xs (padded n z (map h (take k xs))) ≡ list_all (λ (x : A). s x (h x)) (take k xs) && list_all (λ (x : A). s x z) (drop k xs)
     unfolding padded
     same_padded n k xs e = rw (← e) (appended k xs)
 
   pub same_padded_plain : (s : A → A → Bool) → IsSame s → (z : A) (n k : ℕ) (xs : List A) → length xs ≡ n →
-      same_list s xs (padded n z (take k xs)) ≡ every (λ (x : A). s x z) (drop k xs)
+      pointwise s xs (padded n z (take k xs)) ≡ list_all (λ (x : A). s x z) (drop k xs)
   same_padded_plain s d z n k xs e =
-      ap (λ (l : List A). same_list s xs (padded n z l)) (sym (each_same (take k xs))) ∙ same_padded s (λ (x : A). x) z n k xs e
-      ∙ ap (λ (b : Bool). b && every (λ (x : A). s x z) (drop k xs)) (every_true (λ (x : A). s x x) (take k xs) d.same_refl)
+      ap (λ (l : List A). pointwise s xs (padded n z l)) (sym (each_same (take k xs))) ∙ same_padded s (λ (x : A). x) z n k xs e
+      ∙ ap (λ (b : Bool). b && list_all (λ (x : A). s x z) (drop k xs)) (every_true (λ (x : A). s x x) (take k xs) d.same_refl)
 
 -- ===== each by the length of its own array =====
 
-pub prev_ids_tidy_is : (p : PrevIds) → length p.ids ≡ 2 → prev_ids_tidy p ≡ leb p.count 2 && every (λ (i : BlockId). same_id i zero_id) (drop p.count p.ids)
-prev_ids_tidy_is p l = ap₂ ◌&&◌ (count_take p.count p.ids ∙ ap (leb p.count) l) (same_padded_plain same_id id_same zero_id 2 p.count p.ids l)
+pub prev_ids_tidy_is : (p : PrevIds) → length p.items ≡ 2 → prev_ids_tidy p ≡ leb p.count 2 && list_all (λ (i : BlockId). same_id i zero_id) (drop p.count p.items)
+prev_ids_tidy_is p l = ap₂ ◌&&◌ (count_take p.count p.items ∙ ap (leb p.count) l) (same_padded_plain same_id id_same zero_id 2 p.count p.items l)
 
-pub tops_tidy_is : (t : TopBlocks) → length t.items ≡ 8 → tops_tidy t ≡ leb t.count 8 && every (λ (x : TopBlock). same_top x zero_top) (drop t.count t.items)
+pub tops_tidy_is : (t : TopBlocks) → length t.items ≡ 8 → tops_tidy t ≡ leb t.count 8 && list_all (λ (x : TopBlock). same_top x zero_top) (drop t.count t.items)
 tops_tidy_is t l = ap₂ ◌&&◌ (count_take t.count t.items ∙ ap (leb t.count) l) (same_padded_plain same_top top_same zero_top 8 t.count t.items l)
 
 pub entry_tidy_is : (b : BlockCacheEntry) → entry_tidy b ≡ prev_ids_tidy b.prev_ids

@@ -1,10 +1,19 @@
 -- Shards, keys and ids: the tests decide equality, and the orders are strict and total.
 -- Assumes nothing.
-use mathlib.Core.Bool.{Bool, ◌&&◌, ◌||◌, false, true}
-use mathlib.Core.List.{List}
+use mathlib.Core.Bool.{Bool, ◌&&◌, false, true}
+use mathlib.Core.List.{List, [], ◌∷◌}
 use mathlib.Core.Logic.{◌≢◌}
-use mathlib.Core.Path.{◌∙◌, ◌≡◌, ap, ap₂}
+use mathlib.Core.Path.{◌∙◌, ◌≡◌, ap, refl}
 use Prim.Native.Nat.{ℕ}
+use Rattle.std.specs.Cmp.Lexicographic.{slice_partial_cmp}
+use Rattle.std.specs.Ordering.{int_cmp, is_eq, is_lt, is_some_and, nat_cmp, partial_ordering_then}
+use Rattle.std.specs.Prelude.{Option, None, Some}
+use Rattle.std.specs.declared.cmp.Ordering.{Ordering}
+use Rattle.std.specs.declared.cmp.Ordering.TheVariants.{Less, Equal, Greater}
+use lib.IntN.{ℤ}
+use lib.Signed.{lt_z}
+use native.Mathlib.Omega.{arith}
+use borrow.Author.Tests.{ltb-true, ne_eqb}
 use borrow.Author.Tests.{eqb-false, eqb-true}
 use lib.Dec.{eqb, ltb}
 use Rattle.block_records.specs.declared.block_id.BlockId.{BlockId}
@@ -21,18 +30,18 @@ pair_order : {K L : Type 0} {s₁ l₁ : K → K → Bool} {s₂ l₂ : L → L 
 pair_order {K} {L} o₁ o₂ = then_order (λ (a : K × L). a.0) (λ (a : K × L). a.1) (λ a b p q. λ i. (p i, q i)) o₁ o₂
 
 pub shard_order : IsOrder same_shard less_shard
-unfolding same_shard less_shard
+unfolding less_shard
 shard_order =
-    then_order (λ (s : ShardIdent). s.workchain) (λ (s : ShardIdent). s.prefix) (λ a b p q. λ i. record { prefix = q i; workchain = p i }) int_order nat_order
+    then_order (λ (s : ShardIdent). s.workchain) (λ (s : ShardIdent). s.prefix) (λ a b p q. λ i. record { workchain = p i; prefix = q i }) int_order nat_order
 
 abbrev id_rest : BlockId → ℕ × (List ℕ × List ℕ)
 id_rest a = (a.seqno, (a.root_hash, a.file_hash))
 
 id_whole : (a b : BlockId) → id_shard a ≡ id_shard b → id_rest a ≡ id_rest b → a ≡ b
-id_whole a b p q = λ i. record { prefix = (p i).prefix; workchain = (p i).workchain; seqno = (q i).0; root_hash = (q i).1.0; file_hash = (q i).1.1 }
+id_whole a b p q = λ i. record { shard = p i; seqno = (q i).0; root_hash = (q i).1.0; file_hash = (q i).1.1 }
 
 pub id_order : IsOrder same_id less_id
-unfolding same_id less_id
+unfolding less_id
 id_order = then_order id_shard id_rest id_whole shard_order (pair_order nat_order (pair_order bytes_order bytes_order))
 
 -- ===== by name =====
@@ -47,7 +56,7 @@ pub same_shard_false : (a b : ShardIdent) → same_shard a b ≡ false → a ≢
 same_shard_false a b h e = clash (rw e (same_shard_refl b)) h
 
 pub key_path : (a b : BlockIdShort) → key_shard a ≡ key_shard b → a.seqno ≡ b.seqno → a ≡ b
-key_path a b p q = λ i. record { prefix = (p i).prefix; workchain = (p i).workchain; seqno = q i }
+key_path a b p q = λ i. record { shard = p i; seqno = q i }
 
 -- two keys are one or are not
 pub key_dec : (a b : BlockIdShort) → Dec (a ≡ b)
@@ -69,20 +78,81 @@ shard_level a b p q = order_level shard_order a b p q
 pub id_level : (a b : BlockId) → less_id a b ≡ false → less_id b a ≡ false → a ≡ b
 id_level a b p q = order_level id_order a b p q
 
--- ===== an id's tests, put together from those of its parts =====
+-- ===== what the language's `<` answers =====
 
-pub same_id_parts : (a b : BlockId) (sa sb : ShardIdent) (s r f : Bool) → sa ≡ id_shard a → sb ≡ id_shard b → s ≡ same_shard sa sb →
-    r ≡ same_hash a.root_hash b.root_hash → f ≡ same_hash a.file_hash b.file_hash → s && (eqb a.seqno b.seqno && (r && f)) ≡ same_id a b
-unfolding same_id
-same_id_parts a b sa sb s r f p q x y z =
-    let x' : s ≡ same_shard (id_shard a) (id_shard b) = x ∙ ap₂ same_shard p q in
-    ap₂ ◌&&◌ x' (ap (λ (t : Bool). eqb a.seqno b.seqno && t) (ap₂ ◌&&◌ y z))
+-- one comparison after another
+then_lt : (p r : Option Ordering) → is_some_and is_lt (partial_ordering_then p r) ≡ then_by (is_some_and is_lt p) (is_some_and is_eq p) (is_some_and is_lt r)
+then_lt None r = refl
+then_lt (Some Less) r = refl
+then_lt (Some Equal) r = refl
+then_lt (Some Greater) r = refl
 
-pub less_id_parts : (a b : BlockId) (sa sb : ShardIdent) (l s lr r lf : Bool) → sa ≡ id_shard a → sb ≡ id_shard b → l ≡ less_shard sa sb → s ≡ same_shard sa sb →
-    lr ≡ less_hash a.root_hash b.root_hash → r ≡ same_hash a.root_hash b.root_hash → lf ≡ less_hash a.file_hash b.file_hash →
-    l || (s && (ltb a.seqno b.seqno || (eqb a.seqno b.seqno && (lr || (r && lf))))) ≡ less_id a b
+then_eq : (p r : Option Ordering) → is_some_and is_eq (partial_ordering_then p r) ≡ is_some_and is_eq p && is_some_and is_eq r
+then_eq None r = refl
+then_eq (Some Less) r = refl
+then_eq (Some Equal) r = refl
+then_eq (Some Greater) r = refl
+
+int_lt : (x y : ℤ) → is_lt (int_cmp x y) ≡ lt_z x y
+int_lt x y = on (lt_z x y) (λ t. rw t) (λ t. on (lt_z y x) (λ u. rw (t, u)) (λ u. rw (t, u)))
+
+pub nat_lt_is : (x y : ℕ) → is_lt (nat_cmp x y) ≡ ltb x y
+nat_lt_is x y = on (ltb x y) (λ t. rw t) (λ t. on (eqb x y) (λ u. rw (t, u)) (λ u. rw (t, u)))
+
+pub nat_eq_is : (x y : ℕ) → is_eq (nat_cmp x y) ≡ eqb x y
+nat_eq_is x y =
+    on (ltb x y) (λ t. let m = ltb-true x y t in rw (t, ne_eqb x y (λ e. absurd (omega arith))))
+    (λ t. on (eqb x y) (λ u. rw (t, u)) (λ u. rw (t, u)))
+
+-- of hashes, byte by byte
+abbrev bytes_cmp : List ℕ → List ℕ → Option Ordering
+bytes_cmp xs ys = slice_partial_cmp (λ (x y : ℕ). Some (nat_cmp x y)) xs ys
+
+bytes_lt : (xs ys : List ℕ) → is_some_and is_lt (bytes_cmp xs ys) ≡ less_hash xs ys
+bytes_lt [] [] = refl
+bytes_lt [] (y ∷ ys) = refl
+bytes_lt (x ∷ xs) [] = refl
+bytes_lt (x ∷ xs) (y ∷ ys) = then_lt (Some (nat_cmp x y)) (bytes_cmp xs ys) ∙ rw (nat_lt_is x y, nat_eq_is x y, bytes_lt xs ys)
+
+bytes_eq_is : (xs ys : List ℕ) → is_some_and is_eq (bytes_cmp xs ys) ≡ same_hash xs ys
+bytes_eq_is [] [] = refl
+bytes_eq_is [] (y ∷ ys) = refl
+bytes_eq_is (x ∷ xs) [] = refl
+bytes_eq_is (x ∷ xs) (y ∷ ys) = then_eq (Some (nat_cmp x y)) (bytes_cmp xs ys) ∙ rw (nat_eq_is x y, bytes_eq_is xs ys)
+
+abbrev shard_cmp : ShardIdent → ShardIdent → Option Ordering
+shard_cmp a b = partial_ordering_then (Some (int_cmp a.workchain b.workchain)) (Some (nat_cmp a.prefix b.prefix))
+
+pub shard_lt : (a b : ShardIdent) → is_some_and is_lt (shard_cmp a b) ≡ less_shard a b
+unfolding less_shard
+shard_lt a b =
+    then_lt (Some (int_cmp a.workchain b.workchain)) (Some (nat_cmp a.prefix b.prefix))
+    ∙ rw (int_lt a.workchain b.workchain, nat_lt_is a.prefix b.prefix)
+
+shard_eq : (a b : ShardIdent) → is_some_and is_eq (shard_cmp a b) ≡ same_shard a b
+shard_eq a b =
+    then_eq (Some (int_cmp a.workchain b.workchain)) (Some (nat_cmp a.prefix b.prefix)) ∙ rw (nat_eq_is a.prefix b.prefix)
+
+-- as the language compares ids
+abbrev pub id_cmp : BlockId → BlockId → Option Ordering
+id_cmp a b =
+    partial_ordering_then (shard_cmp a.shard b.shard) (partial_ordering_then (Some (nat_cmp a.seqno b.seqno))
+    (partial_ordering_then (bytes_cmp a.root_hash b.root_hash) (bytes_cmp a.file_hash b.file_hash)))
+
+pub id_lt : (a b : BlockId) → is_some_and is_lt (id_cmp a b) ≡ less_id a b
 unfolding less_id
-less_id_parts a b sa sb l s lr r lf p q x y u v w =
-    let x' : l ≡ less_shard (id_shard a) (id_shard b) = x ∙ ap₂ less_shard p q in
-    let y' : s ≡ same_shard (id_shard a) (id_shard b) = y ∙ ap₂ same_shard p q in
-    ap₂ ◌||◌ x' (ap₂ ◌&&◌ y' (ap (λ (t : Bool). ltb a.seqno b.seqno || (eqb a.seqno b.seqno && t)) (ap₂ ◌||◌ u (ap₂ ◌&&◌ v w))))
+id_lt a b =
+    let file = bytes_cmp a.file_hash b.file_hash in
+    let root = partial_ordering_then (bytes_cmp a.root_hash b.root_hash) file in
+    then_lt (shard_cmp a.shard b.shard) (partial_ordering_then (Some (nat_cmp a.seqno b.seqno)) root)
+    ∙ rw (
+      shard_lt a.shard b.shard,
+      shard_eq a.shard b.shard,
+      then_lt (Some (nat_cmp a.seqno b.seqno)) root,
+      nat_lt_is a.seqno b.seqno,
+      nat_eq_is a.seqno b.seqno,
+      then_lt (bytes_cmp a.root_hash b.root_hash) file,
+      bytes_lt a.root_hash b.root_hash,
+      bytes_eq_is a.root_hash b.root_hash,
+      bytes_lt a.file_hash b.file_hash,
+    )

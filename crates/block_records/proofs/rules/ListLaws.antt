@@ -1,5 +1,7 @@
 -- Rising lists: what `select`, `put` and `each` do to their order, their length and what holds of their elements.
 -- Assumes nothing.
+use Rattle.std.specs.List.{list_all}
+use Rattle.std.specs.Prelude.{map, filter}
 use mathlib.Core.Bool.{Bool, false, true}
 use mathlib.Core.List.{List, Memᴰ, [], ◌∷◌}
 use mathlib.Core.Logic.{◌⊎◌, inl, inr}
@@ -11,40 +13,40 @@ use borrow.Author.Tests.{lt-ltb, ltb-false, ltb-true}
 use lib.Dec.{ltb}
 use lib.ListN.{length}
 use Rattle.block_records.proofs.rules.Tests.{and_intro, and_left, and_right, clash, on}
-use Rattle.block_records.specs.rules.Lists.{each, every, put, rising, select}
+use Rattle.block_records.specs.rules.Lists.{put, rising}
 use Rattle.block_records.specs.rules.Order.{IsOrder}
 
 module _ {A : Type 0} where
-  pub every_member : (p : A → Bool) (xs : List A) {a : A} → every p xs ≡ true → Memᴰ a xs → p a ≡ true
+  pub every_member : (p : A → Bool) (xs : List A) {a : A} → list_all p xs ≡ true → Memᴰ a xs → p a ≡ true
   every_member p [] h u = absurd (mathlib.Core.List.Memᴰ.not-nil u)
-  every_member p (x ∷ xs) {a} h u = by (mathlib.Core.List.Memᴰ.cases_cons u) (λ (v : Memᴰ a xs). every_member p xs (and_right (p x) (every p xs) h) v)
+  every_member p (x ∷ xs) {a} h u = by (mathlib.Core.List.Memᴰ.cases_cons u) (λ (v : Memᴰ a xs). every_member p xs (and_right (p x) (list_all p xs) h) v)
     where
       by : (a ≡ x) ⊎ Memᴰ a xs → (Memᴰ a xs → p a ≡ true) → p a ≡ true
-      by (inl e) ih = rw e (and_left (p x) (every p xs) h)
+      by (inl e) ih = rw e (and_left (p x) (list_all p xs) h)
       by (inr v) ih = ih v
 
 module _ {A : Type 0} where
-  pub every_select : (p q : A → Bool) (xs : List A) → every p xs ≡ true → every p (select q xs) ≡ true
+  pub every_select : (p q : A → Bool) (xs : List A) → list_all p xs ≡ true → list_all p (filter q xs) ≡ true
   every_select p q [] h = refl
   every_select p q (x ∷ xs) h =
-      let ih = every_select p q xs (and_right (p x) (every p xs) h) in
-      on (q x) (λ t. rw t (and_intro (and_left (p x) (every p xs) h) ih)) (λ t. rw t ih)
+      let ih = every_select p q xs (and_right (p x) (list_all p xs) h) in
+      on (q x) (λ t. rw t (and_intro (and_left (p x) (list_all p xs) h) ih)) (λ t. rw t ih)
 
-  pub length_select : (q : A → Bool) (xs : List A) → length (select q xs) ≤ length xs
+  pub length_select : (q : A → Bool) (xs : List A) → length (filter q xs) ≤ length xs
   length_select q [] = le_refl 0
   length_select q (x ∷ xs) = let ih = length_select q xs in on (q x) (λ t. rw t (omega arith)) (λ t. rw t (omega arith))
 
-  pub rising_select : (lt : A → A → Bool) (q : A → Bool) (xs : List A) → rising lt xs ≡ true → rising lt (select q xs) ≡ true
+  pub rising_select : (lt : A → A → Bool) (q : A → Bool) (xs : List A) → rising lt xs ≡ true → rising lt (filter q xs) ≡ true
   rising_select lt q [] h = refl
   rising_select lt q (x ∷ xs) h =
-      let ih = rising_select lt q xs (and_right (every (lt x) xs) (rising lt xs) h) in
-      on (q x) (λ t. rw t (and_intro (every_select (lt x) q xs (and_left (every (lt x) xs) (rising lt xs) h)) ih)) (λ t. rw t ih)
+      let ih = rising_select lt q xs (and_right (list_all (lt x) xs) (rising lt xs) h) in
+      on (q x) (λ t. rw t (and_intro (every_select (lt x) q xs (and_left (list_all (lt x) xs) (rising lt xs) h)) ih)) (λ t. rw t ih)
 
-  pub every_put : (p : A → Bool) (lt : A → A → Bool) (a : A) (xs : List A) → p a ≡ true → every p xs ≡ true → every p (put lt a xs) ≡ true
+  pub every_put : (p : A → Bool) (lt : A → A → Bool) (a : A) (xs : List A) → p a ≡ true → list_all p xs ≡ true → list_all p (put lt a xs) ≡ true
   every_put p lt a [] ha h = and_intro ha refl
   every_put p lt a (x ∷ xs) ha h =
-      let hx = and_left (p x) (every p xs) h in
-      let hs = and_right (p x) (every p xs) h in
+      let hx = and_left (p x) (list_all p xs) h in
+      let hs = and_right (p x) (list_all p xs) h in
       on (lt a x) (λ t. rw t (and_intro ha h))
       (λ t. rw t (on (lt x a) (λ u. rw u (and_intro hx (every_put p lt a xs ha hs))) (λ u. rw u (and_intro ha hs))))
 
@@ -54,9 +56,9 @@ module _ {A : Type 0} where
       let ih = length_put lt a xs in
       on (lt a x) (λ t. rw t (omega arith)) (λ t. rw t (on (lt x a) (λ u. rw u (omega arith)) (λ u. rw u (omega arith))))
 
-  pub every_weaken : (p q : A → Bool) (xs : List A) → ((x : A) → p x ≡ true → q x ≡ true) → every p xs ≡ true → every q xs ≡ true
+  pub every_weaken : (p q : A → Bool) (xs : List A) → ((x : A) → p x ≡ true → q x ≡ true) → list_all p xs ≡ true → list_all q xs ≡ true
   every_weaken p q [] f h = refl
-  every_weaken p q (x ∷ xs) f h = and_intro (f x (and_left (p x) (every p xs) h)) (every_weaken p q xs f (and_right (p x) (every p xs) h))
+  every_weaken p q (x ∷ xs) f h = and_intro (f x (and_left (p x) (list_all p xs) h)) (every_weaken p q xs f (and_right (p x) (list_all p xs) h))
 
   -- an order that `put` can go by
   pub record Order (lt : A → A → Bool) : Type 0 where
@@ -67,8 +69,8 @@ module _ {A : Type 0} where
     pub rising_put : (a : A) (xs : List A) → rising lt xs ≡ true → rising lt (put lt a xs) ≡ true
     rising_put a [] h = refl
     rising_put a (x ∷ xs) h =
-        let hx = and_left (every (lt x) xs) (rising lt xs) h in
-        let hs = and_right (every (lt x) xs) (rising lt xs) h in
+        let hx = and_left (list_all (lt x) xs) (rising lt xs) h in
+        let hs = and_right (list_all (lt x) xs) (rising lt xs) h in
         on (lt a x)
         (λ t. rw t (and_intro (and_intro t (every_weaken (lt x) (lt a) xs (λ z l. o.trans a x z t l) hx)) h))
         (λ t. rw t
@@ -80,7 +82,7 @@ module _ {A : Type 0} where
     pub length_put_same : (a x : A) (xs : List A) → rising lt xs ≡ true → Memᴰ x xs → lt a x ≡ false → lt x a ≡ false → length (put lt a xs) ≤ length xs
     length_put_same a x [] h u f g = absurd (mathlib.Core.List.Memᴰ.not-nil u)
     length_put_same a x (y ∷ ys) h u f g =
-        let ih : Memᴰ x ys → length (put lt a ys) ≤ length ys = λ v. length_put_same a x ys (and_right (every (lt y) ys) (rising lt ys) h) v f g in
+        let ih : Memᴰ x ys → length (put lt a ys) ≤ length ys = λ v. length_put_same a x ys (and_right (list_all (lt y) ys) (rising lt ys) h) v f g in
         by ih (mathlib.Core.List.Memᴰ.cases_cons u)
       where
         by : (Memᴰ x ys → length (put lt a ys) ≤ length ys) → (x ≡ y) ⊎ Memᴰ x ys → length (put lt a (y ∷ ys)) ≤ length (y ∷ ys)
@@ -90,23 +92,23 @@ module _ {A : Type 0} where
             rw (f', g') (le_refl _)
         by ih (inr v) =
             on (lt a y)
-            (λ t. clash (o.trans a y x t (every_member (lt y) ys (and_left (every (lt y) ys) (rising lt ys) h) v)) f)
+            (λ t. clash (o.trans a y x t (every_member (lt y) ys (and_left (list_all (lt y) ys) (rising lt ys) h) v)) f)
             (λ t. rw t (on (lt y a) (λ s. let l = ih v in rw s (omega arith)) (λ s. rw s (le_refl _))))
 
 module _ {A B : Type 0} where
-  pub length_each : (f : A → B) (xs : List A) → length (each f xs) ≡ length xs
+  pub length_each : (f : A → B) (xs : List A) → length (map f xs) ≡ length xs
   length_each f [] = refl
   length_each f (x ∷ xs) = ap suc (length_each f xs)
 
-  pub every_each : (f : A → B) (p : A → Bool) (q : B → Bool) (xs : List A) → ((x : A) → p x ≡ true → q (f x) ≡ true) → every p xs ≡ true → every q (each f xs) ≡ true
+  pub every_each : (f : A → B) (p : A → Bool) (q : B → Bool) (xs : List A) → ((x : A) → p x ≡ true → q (f x) ≡ true) → list_all p xs ≡ true → list_all q (map f xs) ≡ true
   every_each f p q [] h a = refl
-  every_each f p q (x ∷ xs) h a = and_intro (h x (and_left (p x) (every p xs) a)) (every_each f p q xs h (and_right (p x) (every p xs) a))
+  every_each f p q (x ∷ xs) h a = and_intro (h x (and_left (p x) (list_all p xs) a)) (every_each f p q xs h (and_right (p x) (list_all p xs) a))
 
   pub rising_each : (f : A → B) (lt : A → A → Bool) (lt' : B → B → Bool) (xs : List A) → ((x y : A) → lt x y ≡ true → lt' (f x) (f y) ≡ true) →
-      rising lt xs ≡ true → rising lt' (each f xs) ≡ true
+      rising lt xs ≡ true → rising lt' (map f xs) ≡ true
   rising_each f lt lt' [] h a = refl
   rising_each f lt lt' (x ∷ xs) h a =
-      and_intro (every_each f (lt x) (lt' (f x)) xs (h x) (and_left (every (lt x) xs) (rising lt xs) a)) (rising_each f lt lt' xs h (and_right (every (lt x) xs) (rising lt xs) a))
+      and_intro (every_each f (lt x) (lt' (f x)) xs (h x) (and_left (list_all (lt x) xs) (rising lt xs) a)) (rising_each f lt lt' xs h (and_right (list_all (lt x) xs) (rising lt xs) a))
 
 -- ===== the orders =====
 

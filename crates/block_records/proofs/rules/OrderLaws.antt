@@ -3,16 +3,17 @@
 use mathlib.Core.Bool.{Bool, ◌&&◌, false, true, true≢false}
 use mathlib.Core.List.{List, [], ◌∷◌}
 use mathlib.Core.Logic.{◌↔◌}
-use mathlib.Core.Path.{◌≡◌, ap₂, refl, sym}
+use mathlib.Core.Path.{◌∙◌, ◌≡◌, ap, ap₂, refl, sym}
 use Prim.Native.Nat.{◌≤◌, ℕ}
 use native.Mathlib.Omega.{arith}
 use borrow.Author.Tests.{eq-eqb, eqb-false, eqb-true, le-ltb, lt-ltb, ltb-false, ltb-true}
 use lib.Dec.{eqb, ltb}
 use lib.IntN.{negsuc, pos, ℤ}
 use lib.Signed.{lt_z}
-use Rattle.block_records.proofs.rules.SignedLaws.{same_int_refl, same_int_true}
+use Rattle.std.proofs.lemmas.Bool.Decides.{Decides-int_eq}
+use Rattle.std.specs.Ordering.{int_eq}
 use Rattle.block_records.proofs.rules.Tests.{and_left, and_right, clash, not_true_false}
-use Rattle.block_records.specs.rules.BlockId.{less_hash, same_hash, same_int}
+use Rattle.block_records.specs.rules.BlockId.{less_hash, same_hash}
 use Rattle.block_records.specs.rules.Order.{IsOrder, then_by}
 
 -- ---- numbers
@@ -45,19 +46,31 @@ int_trans (negsuc a) (pos b) (negsuc c) p q = absurd (true≢false (sym q))
 int_trans (negsuc a) (negsuc b) (pos c) p q = refl
 int_trans (negsuc a) (negsuc b) (negsuc c) p q = nat_order.trans c b a q p
 
-int_total : (a b : ℤ) → same_int a b ≡ false → lt_z a b ≡ false → lt_z b a ≡ true
-int_total (pos a) (pos b) e l = nat_total a b e l
+int_eq_true : (a b : ℤ) → int_eq a b ≡ true → a ≡ b
+int_eq_true a b e = (Decides-int_eq a b).0 e
+
+int_eq_false : (a b : ℤ) → int_eq a b ≡ false → a ≡ b → ⊥
+int_eq_false a b e p = true≢false (sym ((Decides-int_eq a b).1 p) ∙ e)
+
+int_eq_refl : (a : ℤ) → int_eq a a ≡ true
+int_eq_refl a = rw (int_irrefl a)
+
+int_total : (a b : ℤ) → int_eq a b ≡ false → lt_z a b ≡ false → lt_z b a ≡ true
+int_total (pos a) (pos b) e l =
+    let ne : (a ≡ b → ⊥) = λ p. int_eq_false (pos a) (pos b) e (ap pos p) in
+    let le : b ≤ a = ltb-false a b l in
+    lt-ltb b a (omega arith)
 int_total (pos a) (negsuc b) e l = refl
 int_total (negsuc a) (pos b) e l = absurd (true≢false l)
 int_total (negsuc a) (negsuc b) e l =
-    let ne : (a ≡ b → ⊥) = eqb-false a b e in
+    let ne : (a ≡ b → ⊥) = λ p. int_eq_false (negsuc a) (negsuc b) e (ap negsuc p) in
     let le : a ≤ b = ltb-false b a l in
     lt-ltb a b (omega arith)
 
-pub int_order : IsOrder same_int lt_z
+pub int_order : IsOrder int_eq lt_z
 int_order = record {
-  same_eq = same_int_true;
-  same_refl = same_int_refl;
+  same_eq = int_eq_true;
+  same_refl = int_eq_refl;
   irrefl = int_irrefl;
   trans = int_trans;
   tri = int_total;

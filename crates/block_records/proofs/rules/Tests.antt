@@ -1,11 +1,10 @@
 -- Cases on a test, and what tests that hold say.
 -- Assumes nothing.
+use Rattle.std.specs.Prelude.{Option, None, Some, is_some}
 use mathlib.Core.Bool.{Bool, ◌&&◌, ◌||◌, false, not, true, true≢false}
-use mathlib.Core.Option.{Option, none, some}
 use mathlib.Core.Path.{◌≡◌, refl, sym}
 use Prim.Native.Nat.{ℕ}
 use native.Mathlib.Omega.{arith}
-use Rattle.block_records.specs.rules.Lists.{present}
 
 abbrev pub on : {P : Type 0} (b : Bool) → (b ≡ true → P) → (b ≡ false → P) → P
 on true t f = t refl
@@ -50,9 +49,9 @@ pub not_true : (b : Bool) → not b ≡ true → b ≡ false
 not_true true h = sym h
 not_true false h = refl
 
-pub present_some : {A : Type 0} (o : Option A) → present o ≡ true → (a : A) × (o ≡ some a)
-present_some none h = clash h refl
-present_some (some a) h = (a, refl)
+pub present_some : {A : Type 0} (o : Option A) → is_some o ≡ true → (a : A) × (o ≡ Some a)
+present_some None h = clash h refl
+present_some (Some a) h = (a, refl)
 
-pub some_not_none : {A P : Type 0} {o : Option A} {a : A} → o ≡ some a → o ≡ none → P
+pub some_not_none : {A P : Type 0} {o : Option A} {a : A} → o ≡ Some a → o ≡ None → P
 some_not_none {o = o} p q = let z : ◌≡◌ {A = ℕ} 0 1 = cc in absurd (omega arith)

@@ -1,7 +1,6 @@
 -- What code does to a list that stands in an array, whatever the element: one put in, those flagged kept, the places after it left.
 -- Assumes nothing.
-use Rattle.std.specs.Prelude.{Bool, List, [], ◌++◌, ◌∷◌, ◌+◌, ◌-◌, ◌≤◌, ℕ, drop, length, take}
-use Rattle.block_records.specs.rules.Lists.{pick}
+use Rattle.std.specs.Prelude.{Bool, List, [], ◌++◌, ◌∷◌, ◌+◌, ◌-◌, ◌≤◌, ℕ, drop, length, take, cond}
 
 module _ {A : Type 0} where
   -- the first `at` elements, a, and those of place `from` on
@@ -16,7 +15,7 @@ module _ {A : Type 0} where
   abbrev pub flagged : List Bool → List A → List A
   flagged [] xs = []
   flagged (k ∷ ks) [] = []
-  flagged (k ∷ ks) (x ∷ xs) = pick k (x ∷ flagged ks xs) (flagged ks xs)
+  flagged (k ∷ ks) (x ∷ xs) = cond k (x ∷ flagged ks xs) (flagged ks xs)
 
 -- what `spliced` asks of n elements: they fit the places afterwards
 pub record Splices (places at from n : ℕ) : Type 0 where

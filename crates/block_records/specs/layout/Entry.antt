@@ -1,29 +1,27 @@
 -- How an entry is held: previous ids and top items in arrays with a count, zeros beyond it; a master's top items beside its entry.
 -- Assumes nothing.
-use Rattle.std.specs.Prelude.{Bool, List, [], length}
+use Rattle.std.specs.Prelude.{Bool, List, []}
 use Rattle.block_records.specs.declared.block_id.BlockId.{BlockId}
 use Rattle.block_records.specs.declared.entry.BlockCacheEntry.{BlockCacheEntry}
 use Rattle.block_records.specs.declared.entry.BlockCacheEntryData.{BlockCacheEntryData}
 use Rattle.block_records.specs.declared.entry.MasterBlock.{MasterBlock}
-use Rattle.block_records.specs.declared.store_records.PrevIds.{PrevIds}
 use Rattle.block_records.specs.declared.top_block.TopBlock.{TopBlock}
-use Rattle.block_records.specs.declared.top_block.TopBlocks.{TopBlocks}
+use Rattle.block_records.specs.layout.Listed.{PrevIds, TopBlocks, packed}
 use Rattle.block_records.specs.layout.Equality.{same_entry, same_prev_ids, same_tops}
 use Rattle.block_records.specs.layout.Zeros.{zero_id, zero_top}
 use Rattle.block_records.specs.rules.BlockId.{listed_prev_ids, listed_tops}
 use Rattle.block_records.specs.rules.Entry.{Entry, kind_applied, kind_received}
 use Rattle.block_records.specs.rules.Limits.{prev_ids_limit, tops_limit}
-use Rattle.block_records.specs.rules.Lists.{padded}
 
 -- ===== pack: the list first, zeros after it =====
 
 -- of previous ids
 abbrev pub pack_prev_ids : List BlockId → PrevIds
-pack_prev_ids xs = record { ids = padded prev_ids_limit zero_id xs; count = length xs }
+pack_prev_ids xs = packed prev_ids_limit zero_id xs
 
 -- of top items
 abbrev pub pack_tops : List TopBlock → TopBlocks
-pack_tops xs = record { items = padded tops_limit zero_top xs; count = length xs }
+pack_tops xs = packed tops_limit zero_top xs
 
 -- what is listed, and zeros after it, whatever the caller left there
 abbrev pub stored_prev_ids : PrevIds → PrevIds

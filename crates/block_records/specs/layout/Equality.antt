@@ -1,22 +1,20 @@
 -- Equality of the records, as tests: each decides whether two are one (proofs/layout/EqualityLaws).
 -- Assumes nothing.
-use Rattle.std.specs.Prelude.{Bool, ◌&&◌, false, true, eqb}
+use lib.Pointwise.{pointwise}
+use Rattle.std.specs.Prelude.{Bool, ◌&&◌, false, eqb, Option, ℕ}
 use Rattle.std.specs.Bool.{beq}
+use Rattle.std.specs.Option.{option_eq}
 use Rattle.block_records.specs.declared.entry.BlockCacheEntry.{BlockCacheEntry}
 use Rattle.block_records.specs.declared.entry.BlockCacheEntryData.{BlockCacheEntryData}
 use Rattle.block_records.specs.declared.entry.BlockCacheEntryData.TheVariants.{Collated as collated, Received as received}
-use Rattle.block_records.specs.declared.store_records.Anchor.{Anchor}
-use Rattle.block_records.specs.declared.store_records.Anchor.TheVariants.{Absent, At}
-use Rattle.block_records.specs.declared.store_records.PrevIds.{PrevIds}
 use Rattle.block_records.specs.declared.top_block.TopBlock.{TopBlock}
-use Rattle.block_records.specs.declared.top_block.TopBlocks.{TopBlocks}
+use Rattle.block_records.specs.layout.Listed.{PrevIds, TopBlocks}
 use Rattle.block_records.specs.rules.BlockId.{same_id}
 use Rattle.block_records.specs.rules.Entry.{same_status}
-use Rattle.block_records.specs.rules.Lists.{same_list}
 
 -- the same count, and the same id in every place
 abbrev pub same_prev_ids : PrevIds → PrevIds → Bool
-same_prev_ids a b = eqb a.count b.count && same_list same_id a.ids b.ids
+same_prev_ids a b = eqb a.count b.count && pointwise same_id a.items b.items
 
 -- the same reference, id and flag
 abbrev pub same_top : TopBlock → TopBlock → Bool
@@ -25,14 +23,11 @@ same_top a b =
 
 -- the same count, and the same item in every place
 abbrev pub same_tops : TopBlocks → TopBlocks → Bool
-same_tops a b = eqb a.count b.count && same_list same_top a.items b.items
+same_tops a b = eqb a.count b.count && pointwise same_top a.items b.items
 
 -- both absent, or one number
-abbrev pub same_anchor : Anchor → Anchor → Bool
-same_anchor Absent Absent = true
-same_anchor Absent (At y) = false
-same_anchor (At x) Absent = false
-same_anchor (At x) (At y) = eqb x y
+abbrev pub same_anchor : Option ℕ → Option ℕ → Bool
+same_anchor a b = option_eq eqb a b
 
 -- the same case with the same fields
 abbrev pub same_kind : BlockCacheEntryData → BlockCacheEntryData → Bool

@@ -2,7 +2,7 @@
 -- Assumes nothing.
 use Rattle.std.specs.Prelude.{Bool, ◌&&◌}
 use Rattle.block_records.specs.declared.entry.BlockCacheEntry.{BlockCacheEntry}
-use Rattle.block_records.specs.declared.top_block.TopBlocks.{TopBlocks}
+use Rattle.block_records.specs.layout.Listed.{TopBlocks}
 use Rattle.block_records.specs.layout.Zeros.{zero_tops}
 use Rattle.block_records.specs.rules.BlockId.{listed_prev_ids, listed_tops}
 use Rattle.block_records.specs.rules.Questions.{counts_fit, links_fit, seqnos_fit}

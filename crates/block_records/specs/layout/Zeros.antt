@@ -1,7 +1,7 @@
 -- Zeros, as they stand in unused places: numbers 0, flags false, the first of each list of cases (kind Collated, status Collated), what is
 -- optional absent; and the tests for them.
 -- Assumes nothing.
-use Rattle.std.specs.Prelude.{Bool, false, List, ℕ, pos, replicate}
+use Rattle.std.specs.Prelude.{Bool, false, List, ℕ, pos, replicate, None, Option, []}
 use Rattle.block_records.specs.declared.block_id.BlockId.{BlockId}
 use Rattle.block_records.specs.declared.block_id.BlockIdShort.{BlockIdShort}
 use Rattle.block_records.specs.declared.block_id.ShardIdent.{ShardIdent}
@@ -10,23 +10,19 @@ use Rattle.block_records.specs.declared.entry.BlockCacheEntryData.{BlockCacheEnt
 use Rattle.block_records.specs.declared.entry.BlockCacheEntryData.TheVariants.{Collated as collated}
 use Rattle.block_records.specs.declared.entry.CandidateStatus.TheVariants.{Collated}
 use Rattle.block_records.specs.declared.entry.MasterBlock.{MasterBlock}
-use Rattle.block_records.specs.declared.store_records.Anchor.{Anchor}
-use Rattle.block_records.specs.declared.store_records.Anchor.TheVariants.{Absent}
-use Rattle.block_records.specs.declared.store_records.Keys.{Keys}
-use Rattle.block_records.specs.declared.store_records.PrevIds.{PrevIds}
 use Rattle.block_records.specs.declared.top_block.TopBlock.{TopBlock}
-use Rattle.block_records.specs.declared.top_block.TopBlocks.{TopBlocks}
+use Rattle.block_records.specs.layout.Listed.{Keys, PrevIds, TopBlocks, packed}
 use Rattle.block_records.specs.layout.Equality.{same_anchor, same_entry, same_kind, same_prev_ids, same_top, same_tops}
 use Rattle.block_records.specs.rules.BlockId.{same_hash, same_id, same_shard}
 use Rattle.block_records.specs.rules.Limits.{keys_limit, prev_ids_limit, tops_limit}
 
 -- workchain 0, prefix 0
 unfoldable pub zero_shard : ShardIdent
-zero_shard = record { prefix = 0; workchain = pos 0 }
+zero_shard = record { workchain = pos 0; prefix = 0 }
 
 -- the zero shard, seqno 0
 unfoldable pub zero_key : BlockIdShort
-zero_key = record { prefix = 0; workchain = pos 0; seqno = 0 }
+zero_key = record { shard = zero_shard; seqno = 0 }
 
 -- 32 bytes 0
 unfoldable pub zero_hash : List ℕ
@@ -34,15 +30,15 @@ zero_hash = replicate 32 0
 
 -- the zero shard, seqno 0, zero hashes
 unfoldable pub zero_id : BlockId
-zero_id = record { prefix = 0; workchain = pos 0; seqno = 0; root_hash = zero_hash; file_hash = zero_hash }
+zero_id = record { shard = zero_shard; seqno = 0; root_hash = zero_hash; file_hash = zero_hash }
 
 -- no previous id, zeros in both places
 unfoldable pub zero_prev_ids : PrevIds
-zero_prev_ids = record { ids = replicate prev_ids_limit zero_id; count = 0 }
+zero_prev_ids = packed prev_ids_limit zero_id []
 
 -- no key, zeros in all 9 places
 unfoldable pub zero_keys : Keys
-zero_keys = record { keys = replicate keys_limit zero_key; count = 0 }
+zero_keys = packed keys_limit zero_key []
 
 -- reference 0, the zero id, not updated
 unfoldable pub zero_top : TopBlock
@@ -50,7 +46,7 @@ zero_top = record { ref_by_mc_seqno = 0; block_id = zero_id; updated = false }
 
 -- no top item, zeros in all 8 places
 unfoldable pub zero_tops : TopBlocks
-zero_tops = record { items = replicate tops_limit zero_top; count = 0 }
+zero_tops = packed tops_limit zero_top []
 
 -- Collated, status Collated, all else false or 0
 abbrev pub zero_kind : BlockCacheEntryData
@@ -62,7 +58,7 @@ zero_entry =
     record {
       block_id = zero_id;
       prev_ids = zero_prev_ids;
-      top_anchor = Absent;
+      top_anchor = None;
       ref_by_mc_seqno = 0;
       payload = 0;
       «data» = zero_kind;
@@ -99,8 +95,8 @@ abbrev pub is_zero_tops : TopBlocks → Bool
 is_zero_tops t = same_tops t zero_tops
 
 -- of an anchor: it is absent
-abbrev pub is_zero_anchor : Anchor → Bool
-is_zero_anchor a = same_anchor a Absent
+abbrev pub is_zero_anchor : (Option ℕ) → Bool
+is_zero_anchor a = same_anchor a None
 
 -- of a kind
 abbrev pub is_zero_kind : BlockCacheEntryData → Bool

@@ -1,43 +1,35 @@
 -- RULES.md, Ids, shards and keys: shards, keys and ids, their equality and order as tests; and what is listed below a count.
 -- Assumes nothing.
-use Rattle.std.specs.Prelude.{Bool, ◌&&◌, false, true, List, [], ◌∷◌, ℕ, eqb, ltb, negsuc, pos, ℤ, take}
+use lib.Pointwise.{pointwise}
+use Rattle.std.specs.Prelude.{Bool, ◌&&◌, false, true, List, [], ◌∷◌, ℕ, eqb, ltb, negsuc, take}
 use Rattle.std.specs.Int.Signed.{lt_z}
 use Rattle.block_records.specs.declared.block_id.BlockId.{BlockId}
 use Rattle.block_records.specs.declared.block_id.BlockIdShort.{BlockIdShort}
 use Rattle.block_records.specs.declared.block_id.ShardIdent.{ShardIdent}
-use Rattle.block_records.specs.declared.store_records.Keys.{Keys}
-use Rattle.block_records.specs.declared.store_records.PrevIds.{PrevIds}
 use Rattle.block_records.specs.declared.top_block.TopBlock.{TopBlock}
-use Rattle.block_records.specs.declared.top_block.TopBlocks.{TopBlocks}
-use Rattle.block_records.specs.rules.Lists.{same_list}
+use Rattle.block_records.specs.layout.Listed.{Keys, PrevIds, TopBlocks}
+use Rattle.std.specs.Ordering.{int_eq}
 use Rattle.block_records.specs.rules.Order.{then_by}
 
 -- the shard of an id
 abbrev pub id_shard : BlockId → ShardIdent
-id_shard i = record { prefix = i.prefix; workchain = i.workchain }
+id_shard i = i.shard
 
 -- the shard of a key
 abbrev pub key_shard : BlockIdShort → ShardIdent
-key_shard k = record { prefix = k.prefix; workchain = k.workchain }
+key_shard k = k.shard
 
 -- the key of an id: all of it but its hashes
 abbrev pub key : BlockId → BlockIdShort
-key i = record { prefix = i.prefix; workchain = i.workchain; seqno = i.seqno }
-
--- equality of integers
-abbrev pub same_int : ℤ → ℤ → Bool
-same_int (pos a) (pos b) = eqb a b
-same_int (pos a) (negsuc b) = false
-same_int (negsuc a) (pos b) = false
-same_int (negsuc a) (negsuc b) = eqb a b
+key i = record { shard = i.shard; seqno = i.seqno }
 
 -- the workchain is -1; the prefix is not looked at
-unfoldable pub is_masterchain : ShardIdent → Bool
-is_masterchain s = same_int s.workchain (negsuc 0)
+abbrev pub is_masterchain : ShardIdent → Bool
+is_masterchain s = int_eq s.workchain (negsuc 0)
 
 -- equality of hashes, byte by byte
 abbrev pub same_hash : List ℕ → List ℕ → Bool
-same_hash a b = same_list eqb a b
+same_hash a b = pointwise eqb a b
 
 -- order of hashes: at the first byte that differs the lower comes first; a hash comes before its continuations
 abbrev pub less_hash : List ℕ → List ℕ → Bool
@@ -47,19 +39,19 @@ less_hash (x ∷ xs) [] = false
 less_hash (x ∷ xs) (y ∷ ys) = then_by (ltb x y) (eqb x y) (less_hash xs ys)
 
 -- the same workchain and prefix
-unfoldable pub same_shard : ShardIdent → ShardIdent → Bool
-same_shard a b = same_int a.workchain b.workchain && eqb a.prefix b.prefix
+abbrev pub same_shard : ShardIdent → ShardIdent → Bool
+same_shard a b = int_eq a.workchain b.workchain && eqb a.prefix b.prefix
 
 -- the lower workchain first, as integers, then the lower prefix
 unfoldable pub less_shard : ShardIdent → ShardIdent → Bool
-less_shard a b = then_by (lt_z a.workchain b.workchain) (same_int a.workchain b.workchain) (ltb a.prefix b.prefix)
+less_shard a b = then_by (lt_z a.workchain b.workchain) (int_eq a.workchain b.workchain) (ltb a.prefix b.prefix)
 
 -- the same shard and seqno
 abbrev pub same_key : BlockIdShort → BlockIdShort → Bool
 same_key a b = same_shard (key_shard a) (key_shard b) && eqb a.seqno b.seqno
 
 -- the same shard, seqno and hashes
-unfoldable pub same_id : BlockId → BlockId → Bool
+abbrev pub same_id : BlockId → BlockId → Bool
 same_id a b =
     same_shard (id_shard a) (id_shard b) && (eqb a.seqno b.seqno
     && (same_hash a.root_hash b.root_hash && same_hash a.file_hash b.file_hash))
@@ -74,11 +66,11 @@ less_id a b =
 
 -- the ids below the count, all of them where it is past the places
 abbrev pub listed_prev_ids : PrevIds → List BlockId
-listed_prev_ids p = take p.count p.ids
+listed_prev_ids p = take p.count p.items
 
 -- the keys below the count, all of them where it is past the places
 abbrev pub listed_keys : Keys → List BlockIdShort
-listed_keys k = take k.count k.keys
+listed_keys k = take k.count k.items
 
 -- the top items below the count, all of them where it is past the places
 abbrev pub listed_tops : TopBlocks → List TopBlock

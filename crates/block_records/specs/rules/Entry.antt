@@ -1,25 +1,22 @@
 -- RULES.md, Store records and Entries: the entry whole, with its previous ids and top items as lists, for master and shard blocks alike.
 -- Assumes nothing.
-use Rattle.std.specs.Prelude.{Bool, false, true, List, [], ℕ, eqb}
+use Rattle.std.specs.Prelude.{Bool, false, true, List, [], ℕ, eqb, cond, None, Option}
 use Rattle.block_records.specs.declared.block_id.BlockId.{BlockId}
 use Rattle.block_records.specs.declared.entry.BlockCacheEntryData.{BlockCacheEntryData}
 use Rattle.block_records.specs.declared.entry.BlockCacheEntryData.TheVariants.{Collated as collated, Received as received}
 use Rattle.block_records.specs.declared.entry.CandidateStatus.{CandidateStatus}
 use Rattle.block_records.specs.declared.entry.CandidateStatus.TheVariants.{Collated, Synced, Validated, ValidationSkipped}
-use Rattle.block_records.specs.declared.store_records.Anchor.{Anchor}
-use Rattle.block_records.specs.declared.store_records.Anchor.TheVariants.{Absent}
 use Rattle.block_records.specs.declared.store_records.BlockCandidate.{BlockCandidate}
 use Rattle.block_records.specs.declared.store_records.ReceivedBlock.{ReceivedBlock}
 use Rattle.block_records.specs.declared.top_block.TopBlock.{TopBlock}
 use Rattle.block_records.specs.rules.BlockId.{id_shard, is_masterchain, listed_prev_ids, listed_tops}
-use Rattle.block_records.specs.rules.Lists.{pick}
 
 -- a cached block, with all that is known of it
 pub record Entry : Type 0 where
   pub id : BlockId
   pub previous : List BlockId
   pub tops : List TopBlock
-  pub anchor : Anchor
+  pub anchor : (Option ℕ)
   pub reference : ℕ
   pub payload : ℕ
   pub kind : BlockCacheEntryData
@@ -29,14 +26,9 @@ abbrev pub with_kind : BlockCacheEntryData → Entry → Entry
 with_kind k e =
     record { id = e.id; previous = e.previous; tops = e.tops; anchor = e.anchor; reference = e.reference; payload = e.payload; kind = k }
 
--- ===== the number of a case: its place in the list, from 0 =====
+-- ===== equality of statuses =====
 
--- of a kind
-abbrev pub kind_number : BlockCacheEntryData → ℕ
-kind_number (collated st after handle weight processed) = 0
-kind_number (received after more) = 1
-
--- of a status
+-- the number of a status: its place in the list, from 0
 abbrev pub status_number : CandidateStatus → ℕ
 status_number Collated = 0
 status_number Validated = 1
@@ -64,11 +56,11 @@ fresh_collated c =
 
 -- the previous ids that are stored of a received block: none if its reference has the zerostate's seqno, else those listed
 abbrev pub received_previous : ℕ → ReceivedBlock → List BlockId
-received_previous zerostate r = pick (eqb r.ref_block_id.seqno zerostate) [] (listed_prev_ids r.prev_ids)
+received_previous zerostate r = cond (eqb r.ref_block_id.seqno zerostate) [] (listed_prev_ids r.prev_ids)
 
 -- the top anchor that is stored of a received block: absent unless it is a master
-abbrev pub received_anchor : ReceivedBlock → Anchor
-received_anchor r = pick (is_masterchain (id_shard r.block_id)) r.top_anchor Absent
+abbrev pub received_anchor : ReceivedBlock → (Option ℕ)
+received_anchor r = cond (is_masterchain (id_shard r.block_id)) r.top_anchor None
 
 -- what a received block becomes: not collated, no additional anchor
 abbrev pub fresh_received : ℕ → ReceivedBlock → Entry
@@ -80,7 +72,7 @@ fresh_received zerostate r =
       anchor = received_anchor r;
       reference = r.ref_block_id.seqno;
       payload = r.payload;
-      kind = received false Absent;
+      kind = received false None;
     }
 
 -- the kind is Received

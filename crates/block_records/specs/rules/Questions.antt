@@ -1,22 +1,19 @@
 -- RULES.md, Questions: 2 to 4, of a record's id, reference seqno, previous ids and top items, and of keys.
 -- Assumes nothing.
-use Rattle.std.specs.Prelude.{Bool, ◌&&◌, ◌||◌, not, List, [], ◌∷◌, ℕ, eqb, leb, ltb, length}
+use Rattle.std.specs.List.{list_all}
+use Rattle.std.specs.Prelude.{Bool, ◌&&◌, ◌||◌, not, List, [], ◌∷◌, ℕ, eqb, leb, ltb, length, Option, None, Some, cond, Result, Ok, Err, ⊤}
 use Rattle.std.specs.Bool.{beq}
-use Rattle.std.proofs.Math.Option.{Option, none, some}
 use Rattle.block_records.specs.declared.block_id.BlockId.{BlockId}
 use Rattle.block_records.specs.declared.block_id.BlockIdShort.{BlockIdShort}
 use Rattle.block_records.specs.declared.questions.Refusal.{Refusal}
-use Rattle.block_records.specs.declared.questions.Refusal.TheVariants.{Absent as no_refusal, Number as refusal_number}
+use Rattle.block_records.specs.declared.questions.Refusal.TheVariants.{AlreadyStored, BeforeZerostate, ForeignReference, NoIdRoom, NoMaster, NoRoom, NothingApplied, SeqnoLimit, SliceTooShort, TooMany, Unsound, WrongLink}
 use Rattle.block_records.specs.declared.store_records.BlockCandidate.{BlockCandidate}
-use Rattle.block_records.specs.declared.store_records.Keys.{Keys}
-use Rattle.block_records.specs.declared.store_records.PrevIds.{PrevIds}
 use Rattle.block_records.specs.declared.store_records.ReceivedBlock.{ReceivedBlock}
 use Rattle.block_records.specs.declared.top_block.TopBlock.{TopBlock}
-use Rattle.block_records.specs.declared.top_block.TopBlocks.{TopBlocks}
+use Rattle.block_records.specs.layout.Listed.{Keys, PrevIds, TopBlocks}
 use Rattle.block_records.specs.rules.BlockId.{id_shard, is_masterchain, listed_keys, listed_prev_ids, listed_tops}
 use Rattle.block_records.specs.rules.Entry.{Entry}
 use Rattle.block_records.specs.rules.Limits.{keys_limit, prev_ids_limit, tops_limit}
-use Rattle.block_records.specs.rules.Lists.{every, pick}
 
 -- the highest number of 32 bits; seqnos lie below it
 abbrev pub seqno_limit : ℕ
@@ -40,11 +37,11 @@ top_fits t = seqno_fits t.ref_by_mc_seqno && id_fits t.block_id
 
 -- 2, of a record: its id, reference, previous ids and top items all have such seqnos
 abbrev pub seqnos_fit : BlockId → ℕ → List BlockId → List TopBlock → Bool
-seqnos_fit i reference previous tops = id_fits i && (seqno_fits reference && (every id_fits previous && every top_fits tops))
+seqnos_fit i reference previous tops = id_fits i && (seqno_fits reference && (list_all id_fits previous && list_all top_fits tops))
 
 -- 2, of keys
 abbrev pub keys_fit : List BlockIdShort → Bool
-keys_fit ks = every key_fits ks
+keys_fit ks = list_all key_fits ks
 
 -- 3, of a record, by its counts: previous ids and top items are no more than their limits, and only a master has top items
 abbrev pub counts_fit : BlockId → ℕ → ℕ → Bool
@@ -64,35 +61,50 @@ top_outside t = not (is_masterchain (id_shard t.block_id))
 
 -- 4, of a record: all its previous ids and top items
 abbrev pub links_fit : BlockId → List BlockId → List TopBlock → Bool
-links_fit i previous tops = every (previous_fits i) previous && every top_outside tops
+links_fit i previous tops = list_all (previous_fits i) previous && list_all top_outside tops
 
--- ===== questions in a row: the first no gives its number =====
+-- ===== questions in a row: the first no gives its refusal =====
 
--- a question's number, and whether its answer is yes
+-- the number of a question, by which the refusal of its no is known
+abbrev pub refusal_number : Refusal → ℕ
+refusal_number Unsound = 1
+refusal_number SeqnoLimit = 2
+refusal_number TooMany = 3
+refusal_number WrongLink = 4
+refusal_number BeforeZerostate = 5
+refusal_number ForeignReference = 6
+refusal_number AlreadyStored = 7
+refusal_number NoRoom = 8
+refusal_number NoIdRoom = 9
+refusal_number SliceTooShort = 10
+refusal_number NothingApplied = 11
+refusal_number NoMaster = 12
+
+-- a question: what its no refuses by, and whether its answer is yes
 pub record Question : Type 0 where
-  pub number : ℕ
+  pub refusal : Refusal
   pub yes? : Bool
 
 -- a question of a test
-abbrev pub ask : ℕ → Bool → Question
-ask n b = record { number = n; yes? = b }
+abbrev pub ask : Refusal → Bool → Question
+ask r b = record { refusal = r; yes? = b }
 
--- the number of the first question whose answer is no
-abbrev pub first_no : List Question → Option ℕ
-first_no [] = none
-first_no (q ∷ qs) = pick q.yes? (first_no qs) (some q.number)
+-- the refusal by the first question whose answer is no
+abbrev pub first_no : List Question → Option Refusal
+first_no [] = None
+first_no (q ∷ qs) = cond q.yes? (first_no qs) (Some q.refusal)
 
--- a number or none, as the code has it
-abbrev pub pack_refusal : Option ℕ → Refusal
-pack_refusal none = no_refusal
-pack_refusal (some n) = refusal_number n
+-- passed, or the refusal
+abbrev pub passed : Option Refusal → Result ⊤ Refusal
+passed None = Ok tt
+passed (Some r) = Err r
 
 -- A record's own questions, of what is listed. With a count past its capacity all places are listed, so that 2 asks of each of them before 3 refuses
 -- the count.
 abbrev pub record_questions : BlockId → ℕ → PrevIds → TopBlocks → List Question
 record_questions i reference previous tops =
-    ask 2 (seqnos_fit i reference (listed_prev_ids previous) (listed_tops tops)) ∷ ask 3 (counts_fit i previous.count tops.count)
-    ∷ ask 4 (links_fit i (listed_prev_ids previous) (listed_tops tops)) ∷ []
+    ask SeqnoLimit (seqnos_fit i reference (listed_prev_ids previous) (listed_tops tops)) ∷ ask TooMany (counts_fit i previous.count tops.count)
+    ∷ ask WrongLink (links_fit i (listed_prev_ids previous) (listed_tops tops)) ∷ []
 
 -- of a candidate
 abbrev pub candidate_questions : BlockCandidate → List Question
@@ -104,23 +116,23 @@ received_questions r = record_questions r.block_id r.ref_block_id.seqno r.prev_i
 
 -- of keys
 abbrev pub keys_questions : Keys → List Question
-keys_questions ks = ask 2 (keys_fit (listed_keys ks)) ∷ ask 3 (keys_count_fits ks.count) ∷ []
+keys_questions ks = ask SeqnoLimit (keys_fit (listed_keys ks)) ∷ ask TooMany (keys_count_fits ks.count) ∷ []
 
--- the number of the first of them whose answer is no, if there is one
-abbrev pub record_refusal : BlockId → ℕ → PrevIds → TopBlocks → Refusal
-record_refusal i reference previous tops = pack_refusal (first_no (record_questions i reference previous tops))
+-- a record's own questions asked in their order
+abbrev pub check_record : BlockId → ℕ → PrevIds → TopBlocks → Result ⊤ Refusal
+check_record i reference previous tops = passed (first_no (record_questions i reference previous tops))
 
 -- the same of a candidate
-abbrev pub candidate_refusal : BlockCandidate → Refusal
-candidate_refusal c = pack_refusal (first_no (candidate_questions c))
+abbrev pub check_candidate : BlockCandidate → Result ⊤ Refusal
+check_candidate c = passed (first_no (candidate_questions c))
 
 -- the same of a received block
-abbrev pub received_refusal : ReceivedBlock → Refusal
-received_refusal r = pack_refusal (first_no (received_questions r))
+abbrev pub check_received : ReceivedBlock → Result ⊤ Refusal
+check_received r = passed (first_no (received_questions r))
 
 -- the same of keys
-abbrev pub keys_refusal : Keys → Refusal
-keys_refusal ks = pack_refusal (first_no (keys_questions ks))
+abbrev pub check_keys : Keys → Result ⊤ Refusal
+check_keys ks = passed (first_no (keys_questions ks))
 
 -- ===== of an entry =====
 

@@ -1,16 +1,14 @@
 -- Seqnos beside the entries instead of removals: what is found among those still cached, and what one less makes of the groups.
 -- Assumes nothing.
+use Rattle.std.specs.List.{list_all}
+use Rattle.std.specs.Prelude.{None, Some, map}
 use Rattle.std.proofs.Common.{◌≡◌, ℕ, zero, suc, ◌+◌, ◌-◌, ◌<◌, Bool, true, false, not, eqb, ◌⊎◌, List, [], ◌∷◌, ◌++◌, length, get_or, set, replicate, sym, refl, ap, ◌∙◌, subst, ap₂, inl, inr, le_of_suc-le-suc, arith, ltb-true, eq-eqb, ne_eqb, eqb-true}
-use mathlib.Core.Option.{none, some}
 use Rattle.block_records.specs.declared.block_id.BlockId.{BlockId}
 use Rattle.block_records.specs.declared.block_id.ShardIdent.{ShardIdent}
 use Rattle.block_records.specs.declared.entry.BlockCacheEntry.{BlockCacheEntry}
 use Rattle.blocks_cache.specs.declared.cache.ShardGroup.{ShardGroup}
 use Rattle.blocks_cache.specs.declared.lookup.EntrySeqno.{EntrySeqno}
 use Rattle.blocks_cache.specs.declared.lookup.GroupSeqnos.{GroupSeqnos}
-use Rattle.blocks_group.specs.declared.group.Boundary.TheVariants.{Absent as no_boundary}
-use Rattle.blocks_group.specs.declared.mark.Mark.{Mark}
-use Rattle.blocks_group.specs.declared.mark.Mark.TheVariants.{Absent as no_mark, At as mark_at}
 use Rattle.block_records.proofs.arrays.LoopLaws.{padded_nil}
 use Rattle.block_records.proofs.rules.BlockIdLaws.{same_shard_true, shard_order}
 use Rattle.block_records.proofs.rules.ListLaws.{every_weaken, length_each}
@@ -19,22 +17,21 @@ use Rattle.block_records.specs.layout.Entry.{pack_entry}
 use Rattle.block_records.specs.layout.Zeros.{zero_entry, zero_shard}
 use Rattle.block_records.specs.rules.BlockId.{id_shard, key, less_shard, same_shard}
 use Rattle.block_records.specs.rules.Entry.{Entry}
-use Rattle.block_records.specs.rules.Lists.{each, every, padded, rising}
+use Rattle.block_records.specs.rules.Lists.{padded, rising}
 use Rattle.blocks_cache.proofs.arrays.ExtractionLaws.{FirstAt, NonePasses}
 use Rattle.blocks_cache.specs.arrays.Extraction.{compact_shard, compact_shards, seqno_gone, still_cached}
 use Rattle.blocks_cache.specs.arrays.Lookup.{cached_at, group_seqnos, no_seqno_here, no_seqnos, seqno_here, shard_seqnos}
 use Rattle.blocks_cache.specs.arrays.Shards.{ident_at, shard_ident}
 use Rattle.blocks_cache.specs.layout.Cache.{pack_shard, zero_shard_group}
 use Rattle.blocks_group.proofs.arrays.GroupLaws.{listed_packed}
-use Rattle.blocks_group.proofs.layout.GroupLaws.{view_pack_mark}
-use Rattle.blocks_group.specs.layout.Group.{pack_boundary, pack_group, pack_mark, view_mark, zero_group}
+use Rattle.blocks_group.specs.layout.Group.{pack_group, zero_group}
 use Rattle.blocks_group.specs.rules.Group.{GroupModel, at_seqno, entry_before, has_seqno, without}
 use Rattle.cache_rules.specs.Model.{ShardModel, block_under, on_shard, shard_before}
 
 -- ===== what the groups are now =====
 
 abbrev pub now_group : GroupSeqnos → GroupModel → GroupModel
-now_group s g = record { entries = still_cached s.entries g.entries; mark = view_mark s.mark; boundary = g.boundary }
+now_group s g = record { entries = still_cached s.entries g.entries; mark = s.mark; boundary = g.boundary }
 
 abbrev pub now_shard : GroupSeqnos → ShardModel → ShardModel
 now_shard s g = record { shard = g.shard; group = now_group s g.group }
@@ -70,7 +67,7 @@ module _ (n : ℕ) where
   miss : (x : EntrySeqno) (e : Entry) → x.seqno ≡ e.id.seqno → cached_at n x ≡ false → x.cached ≡ true → eqb e.id.seqno n ≡ false
   miss x e s f c = let q : eqb x.seqno n ≡ false = rw c at f in sym (ap (λ (k : ℕ). eqb k n) s) ∙ q
 
-  pub none_cached : (xs : List EntrySeqno) (es : List Entry) → NonePasses (cached_at n) xs → Numbered xs es → at_seqno n (still_cached xs es) ≡ none
+  pub none_cached : (xs : List EntrySeqno) (es : List Entry) → NonePasses (cached_at n) xs → Numbered xs es → at_seqno n (still_cached xs es) ≡ None
   none_cached [] es f w = refl
   none_cached (x ∷ xs) [] f w = refl
   none_cached (x ∷ xs) (e ∷ es) f w =
@@ -83,7 +80,7 @@ module _ (n : ℕ) where
   cached_within (x ∷ xs) (e ∷ es) zero f w = omega arith
   cached_within (x ∷ xs) (e ∷ es) (suc j) f w = let ih = cached_within xs es j f.1 w.1 in omega arith
 
-  pub found_cached : (xs : List EntrySeqno) (es : List Entry) (j : ℕ) (d : Entry) → FirstAt (cached_at n) xs j → Numbered xs es → at_seqno n (still_cached xs es) ≡ some (get_or es j d)
+  pub found_cached : (xs : List EntrySeqno) (es : List Entry) (j : ℕ) (d : Entry) → FirstAt (cached_at n) xs j → Numbered xs es → at_seqno n (still_cached xs es) ≡ Some (get_or es j d)
   found_cached [] es j d f w = absurd f
   found_cached (x ∷ xs) [] j d f w = absurd (omega (arith, cached_within (x ∷ xs) [] j f w))
   found_cached (x ∷ xs) (e ∷ es) zero d f w = let h = hit x f in rw (h.0, eq-eqb e.id.seqno n (sym w.0 ∙ h.1))
@@ -91,16 +88,16 @@ module _ (n : ℕ) where
       let ih = found_cached xs es j d f.1 w.1 in on x.cached (λ c. rw (c, miss x e w.0 f.0 c) ih) (λ c. rw c ih)
 
   -- where no entry has the seqno none goes
-  keeps_all : (xs : List EntrySeqno) (es : List Entry) → every (λ (e : Entry). not (has_seqno n e)) es ≡ true → without n (still_cached xs es) ≡ still_cached xs es
+  keeps_all : (xs : List EntrySeqno) (es : List Entry) → list_all (λ (e : Entry). not (has_seqno n e)) es ≡ true → without n (still_cached xs es) ≡ still_cached xs es
   keeps_all [] es a = refl
   keeps_all (x ∷ xs) [] a = refl
   keeps_all (x ∷ xs) (e ∷ es) a =
-      let k : not (has_seqno n e) ≡ true = and_left (not (has_seqno n e)) (every (λ (e : Entry). not (has_seqno n e)) es) a in
-      let ih = keeps_all xs es (and_right (not (has_seqno n e)) (every (λ (e : Entry). not (has_seqno n e)) es) a) in
+      let k : not (has_seqno n e) ≡ true = and_left (not (has_seqno n e)) (list_all (λ (e : Entry). not (has_seqno n e)) es) a in
+      let ih = keeps_all xs es (and_right (not (has_seqno n e)) (list_all (λ (e : Entry). not (has_seqno n e)) es) a) in
       on x.cached (λ c. rw (c, k, ih)) (λ c. rw c ih)
 
   -- the others have seqnos above
-  others_above : (e : Entry) (es : List Entry) → e.id.seqno ≡ n → every (entry_before e) es ≡ true → every (λ (y : Entry). not (has_seqno n y)) es ≡ true
+  others_above : (e : Entry) (es : List Entry) → e.id.seqno ≡ n → list_all (entry_before e) es ≡ true → list_all (λ (y : Entry). not (has_seqno n y)) es ≡ true
   others_above e es q a =
       every_weaken (entry_before e) (λ (y : Entry). not (has_seqno n y)) es
       (λ y l. let k = ltb-true e.id.seqno y.id.seqno l in rw (ne_eqb y.id.seqno n (λ z. omega arith))) a
@@ -112,9 +109,9 @@ module _ (n : ℕ) where
   cached_leaves (x ∷ xs) (e ∷ es) zero f w r =
       let h = hit x f in
       let q : e.id.seqno ≡ n = sym w.0 ∙ h.1 in
-      rw (h.0, eq-eqb e.id.seqno n q) (keeps_all xs es (others_above e es q (and_left (every (entry_before e) es) (rising entry_before es) r)))
+      rw (h.0, eq-eqb e.id.seqno n q) (keeps_all xs es (others_above e es q (and_left (list_all (entry_before e) es) (rising entry_before es) r)))
   cached_leaves (x ∷ xs) (e ∷ es) (suc j) f w r =
-      let ih = cached_leaves xs es j f.1 w.1 (and_right (every (entry_before e) es) (rising entry_before es) r) in
+      let ih = cached_leaves xs es j f.1 w.1 (and_right (list_all (entry_before e) es) (rising entry_before es) r) in
       on x.cached (λ c. rw (c, miss x e w.0 f.0 c) (ap (λ (l : List Entry). e ∷ l) ih)) (λ c. rw c ih)
 
   pub leaves_numbered : (xs : List EntrySeqno) (es : List Entry) (j : ℕ) → FirstAt (cached_at n) xs j → Numbered xs es → Numbered (set xs j (seqno_gone n)) es
@@ -133,7 +130,7 @@ module _ (i : BlockId) where
   same_here x g b e f = sym (ap (λ (y : ShardIdent). same_shard y (id_shard i)) e) ∙ f
 
   -- no group of the shard
-  pub no_shard_cached : (is : List ShardIdent) (ss : List GroupSeqnos) (gs : List ShardModel) → NonePasses own is → Indexed is ss gs → block_under (now_shards ss gs) (key i) ≡ none
+  pub no_shard_cached : (is : List ShardIdent) (ss : List GroupSeqnos) (gs : List ShardModel) → NonePasses own is → Indexed is ss gs → block_under (now_shards ss gs) (key i) ≡ None
   no_shard_cached [] [] [] f w = refl
   no_shard_cached [] [] (g ∷ gs) f w = absurd w
   no_shard_cached [] (s ∷ ss) gs f w = absurd w
@@ -143,21 +140,21 @@ module _ (i : BlockId) where
 
   -- the place found is that of a group, or past them all
   pub listed_or_empty : (is : List ShardIdent) (ss : List GroupSeqnos) (gs : List ShardModel) (k : ℕ) (d : GroupSeqnos) → FirstAt own is k → Indexed is ss gs →
-      (k < length gs) ⊎ ((get_or ss k d ≡ no_seqnos) × (block_under (now_shards ss gs) (key i) ≡ none))
+      (k < length gs) ⊎ ((get_or ss k d ≡ no_seqnos) × (block_under (now_shards ss gs) (key i) ≡ None))
   listed_or_empty [] ss gs k d f w = absurd f
   listed_or_empty (x ∷ is) [] gs k d f w = absurd w
   listed_or_empty (x ∷ is) (s ∷ ss) [] zero d f w = inr (w.0, refl)
   listed_or_empty (x ∷ is) (s ∷ ss) [] (suc k) d f w = past (listed_or_empty is ss [] k d f.1 w.1)
     where
-      past : (k < 0) ⊎ ((get_or ss k d ≡ no_seqnos) × (block_under (now_shards ss []) (key i) ≡ none)) →
-          (suc k < 0) ⊎ ((get_or ss k d ≡ no_seqnos) × (block_under (now_shards (s ∷ ss) []) (key i) ≡ none))
+      past : (k < 0) ⊎ ((get_or ss k d ≡ no_seqnos) × (block_under (now_shards ss []) (key i) ≡ None)) →
+          (suc k < 0) ⊎ ((get_or ss k d ≡ no_seqnos) × (block_under (now_shards (s ∷ ss) []) (key i) ≡ None))
       past (inl h) = absurd (omega arith)
       past (inr e) = inr (e.0, refl)
   listed_or_empty (x ∷ is) (s ∷ ss) (g ∷ gs) zero d f w = inl (omega arith)
   listed_or_empty (x ∷ is) (s ∷ ss) (g ∷ gs) (suc k) d f w = further (listed_or_empty is ss gs k d f.1 w.2)
     where
-      further : (k < length gs) ⊎ ((get_or ss k d ≡ no_seqnos) × (block_under (now_shards ss gs) (key i) ≡ none)) →
-          (suc k < length (g ∷ gs)) ⊎ ((get_or ss k d ≡ no_seqnos) × (block_under (now_shards (s ∷ ss) (g ∷ gs)) (key i) ≡ none))
+      further : (k < length gs) ⊎ ((get_or ss k d ≡ no_seqnos) × (block_under (now_shards ss gs) (key i) ≡ None)) →
+          (suc k < length (g ∷ gs)) ⊎ ((get_or ss k d ≡ no_seqnos) × (block_under (now_shards (s ∷ ss) (g ∷ gs)) (key i) ≡ None))
       further (inl h) = inl (omega arith)
       further (inr e) = inr (e.0, rw (same_here x g false w.0 f.0) e.1)
 
@@ -191,15 +188,15 @@ module _ (i : BlockId) where
   indexed_set (x ∷ is) (s ∷ ss) (g ∷ gs) (suc k) s' h w l v = (w.0, w.1, indexed_set is ss gs k s' h w.2 (le_of_suc-le-suc l) v)
 
   -- groups of later shards stay
-  later_stay : (f : GroupModel → GroupModel) (ss : List GroupSeqnos) (gs : List ShardModel) (g : ShardModel) → g.shard ≡ id_shard i → every (shard_before g) gs ≡ true →
+  later_stay : (f : GroupModel → GroupModel) (ss : List GroupSeqnos) (gs : List ShardModel) (g : ShardModel) → g.shard ≡ id_shard i → list_all (shard_before g) gs ≡ true →
       on_shard (id_shard i) f (now_shards ss gs) ≡ now_shards ss gs
   later_stay f [] gs g e a = refl
   later_stay f (s ∷ ss) [] g e a = refl
   later_stay f (s ∷ ss) (x ∷ gs) g e a =
-      let l : less_shard g.shard x.shard ≡ true = and_left (shard_before g x) (every (shard_before g) gs) a in
+      let l : less_shard g.shard x.shard ≡ true = and_left (shard_before g x) (list_all (shard_before g) gs) a in
       let n : same_shard x.shard (id_shard i) ≡ false =
       not_true_false (same_shard x.shard (id_shard i)) (λ t. absurd_eq (sym (shard_order.irrefl g.shard) ∙ ap (less_shard g.shard) (e ∙ sym (same_shard_true x.shard (id_shard i) t)) ∙ l)) in
-      rw n (ap (λ (r : List ShardModel). now_shard s x ∷ r) (later_stay f ss gs g e (and_right (shard_before g x) (every (shard_before g) gs) a)))
+      rw n (ap (λ (r : List ShardModel). now_shard s x ∷ r) (later_stay f ss gs g e (and_right (shard_before g x) (list_all (shard_before g) gs) a)))
 
   -- a change of the seqnos is a change of the group
   pub change_in : (f : GroupModel → GroupModel) (s' : GroupSeqnos) (is : List ShardIdent) (ss : List GroupSeqnos) (gs : List ShardModel) (k : ℕ) (d : GroupSeqnos) (h : ShardModel) →
@@ -213,11 +210,11 @@ module _ (i : BlockId) where
       let e : g.shard ≡ id_shard i = same_shard_true g.shard (id_shard i) t in
       rw t
       (ap₂ (λ (y : GroupModel) (r : List ShardModel). record { shard = g.shard; group = y } ∷ r) (sym v)
-      (later_stay f ss gs g e (and_left (every (shard_before g) gs) (rising shard_before gs) r)))
+      (later_stay f ss gs g e (and_left (list_all (shard_before g) gs) (rising shard_before gs) r)))
   change_in f s' (x ∷ is) (s ∷ ss) (g ∷ gs) (suc k) d h a w r l v =
       rw (same_here x g false w.0 a.0)
       (ap (λ (r : List ShardModel). now_shard s g ∷ r)
-      (change_in f s' is ss gs k d h a.1 w.2 (and_right (every (shard_before g) gs) (rising shard_before gs) r) (le_of_suc-le-suc l) v))
+      (change_in f s' is ss gs k d h a.1 w.2 (and_right (list_all (shard_before g) gs) (rising shard_before gs) r) (le_of_suc-le-suc l) v))
 
 -- two changes of one group are one
 pub on_shard_twice : (s : ShardIdent) (f g : GroupModel → GroupModel) (gs : List ShardModel) → on_shard s g (on_shard s f gs) ≡ on_shard s (λ (x : GroupModel). g (f x)) gs
@@ -242,7 +239,7 @@ unfolding no_seqno_here
 none_numbered zero = tt
 none_numbered (suc m) = (refl, none_numbered m)
 
-first_numbered : (m : ℕ) (es : List Entry) → Numbered (each seqno_here (each pack_entry es) ++ replicate m no_seqno_here) es
+first_numbered : (m : ℕ) (es : List Entry) → Numbered (map seqno_here (map pack_entry es) ++ replicate m no_seqno_here) es
 first_numbered m [] = none_numbered m
 first_numbered m (e ∷ es) = (refl, first_numbered m es)
 
@@ -250,27 +247,27 @@ no_entries : {A : Type 0} (xs : List EntrySeqno) → still_cached {A = A} xs [] 
 no_entries [] = refl
 no_entries (x ∷ xs) = refl
 
-first_cached : (m : ℕ) (es : List Entry) → still_cached (each seqno_here (each pack_entry es) ++ replicate m no_seqno_here) es ≡ es
+first_cached : (m : ℕ) (es : List Entry) → still_cached (map seqno_here (map pack_entry es) ++ replicate m no_seqno_here) es ≡ es
 first_cached m [] = no_entries (replicate m no_seqno_here)
 first_cached m (e ∷ es) = ap (λ (r : List Entry). e ∷ r) (first_cached m es)
 
-first_seqnos : (g : GroupModel) → (group_seqnos (pack_group g)).entries ≡ each seqno_here (each pack_entry g.entries) ++ replicate (16 - length (each seqno_here (each pack_entry g.entries))) no_seqno_here
+first_seqnos : (g : GroupModel) → (group_seqnos (pack_group g)).entries ≡ map seqno_here (map pack_entry g.entries) ++ replicate (16 - length (map seqno_here (map pack_entry g.entries))) no_seqno_here
 unfolding padded
-first_seqnos g = ap (λ (bs : List BlockCacheEntry). each seqno_here bs ++ replicate (16 - length (each seqno_here bs)) no_seqno_here) (listed_packed g)
+first_seqnos g = ap (λ (bs : List BlockCacheEntry). map seqno_here bs ++ replicate (16 - length (map seqno_here bs)) no_seqno_here) (listed_packed g)
 
 abbrev spare : GroupModel → ℕ
-spare g = 16 - length (each seqno_here (each pack_entry g.entries))
+spare g = 16 - length (map seqno_here (map pack_entry g.entries))
 
 zero_seqnos : shard_seqnos zero_shard_group ≡ no_seqnos
 unfolding zero_shard_group zero_group no_seqnos
-zero_seqnos = let e = padded_nil 16 no_seqno_here in λ i. record { entries = e i; mark = no_mark }
+zero_seqnos = let e = padded_nil 16 no_seqno_here in λ i. record { entries = e i; mark = None }
 
-no_groups_indexed : (m : ℕ) → Indexed (each shard_ident (replicate m zero_shard_group)) (each shard_seqnos (replicate m zero_shard_group)) []
+no_groups_indexed : (m : ℕ) → Indexed (map shard_ident (replicate m zero_shard_group)) (map shard_seqnos (replicate m zero_shard_group)) []
 no_groups_indexed zero = tt
 no_groups_indexed (suc m) = (zero_seqnos, no_groups_indexed m)
 
 pub first_indexed : (m : ℕ) (gs : List ShardModel) →
-    Indexed (each shard_ident (each pack_shard gs ++ replicate m zero_shard_group)) (each shard_seqnos (each pack_shard gs ++ replicate m zero_shard_group)) gs
+    Indexed (map shard_ident (map pack_shard gs ++ replicate m zero_shard_group)) (map shard_seqnos (map pack_shard gs ++ replicate m zero_shard_group)) gs
 first_indexed m [] = no_groups_indexed m
 first_indexed m (g ∷ gs) =
     (refl, subst (λ (xs : List EntrySeqno). Numbered xs g.group.entries) (sym (first_seqnos g.group)) (first_numbered (spare g.group) g.group.entries), first_indexed m gs)
@@ -279,19 +276,14 @@ no_groups : (ss : List GroupSeqnos) → now_shards ss [] ≡ []
 no_groups [] = refl
 no_groups (s ∷ ss) = refl
 
-pub first_now : (rest : List ShardGroup) (gs : List ShardModel) → now_shards (each shard_seqnos (each pack_shard gs ++ rest)) gs ≡ gs
-first_now rest [] = no_groups (each shard_seqnos rest)
+pub first_now : (rest : List ShardGroup) (gs : List ShardModel) → now_shards (map shard_seqnos (map pack_shard gs ++ rest)) gs ≡ gs
+first_now rest [] = no_groups (map shard_seqnos rest)
 first_now rest (g ∷ gs) =
     let a = ap (λ (xs : List EntrySeqno). still_cached xs g.group.entries) (first_seqnos g.group) ∙ first_cached (spare g.group) g.group.entries in
-    let b = view_pack_mark g.group.mark in
-    let c : now_shard (shard_seqnos (pack_shard g)) g ≡ g = λ i. record { shard = g.shard; group = record { entries = a i; mark = b i; boundary = g.group.boundary } } in
+    let c : now_shard (shard_seqnos (pack_shard g)) g ≡ g = λ i. record { shard = g.shard; group = record { entries = a i; mark = g.group.mark; boundary = g.group.boundary } } in
     ap₂ (λ (x : ShardModel) (xs : List ShardModel). x ∷ xs) c (first_now rest gs)
 
 -- ===== after the last turn =====
-
-pack_view_mark : (x : Mark) → pack_mark (view_mark x) ≡ x
-pack_view_mark no_mark = refl
-pack_view_mark (mark_at n) = refl
 
 -- places past the entries are not cached
 compact_none : (xs : List EntrySeqno) (bs : List BlockCacheEntry) → Numbered xs [] → still_cached xs bs ≡ []
@@ -299,8 +291,8 @@ compact_none [] bs w = refl
 compact_none (x ∷ xs) [] w = refl
 compact_none (x ∷ xs) (b ∷ bs) w = rw w.0 (compact_none xs bs w.1)
 
-compact_packed : (xs : List EntrySeqno) (es : List Entry) (bs : List BlockCacheEntry) → Numbered xs es → still_cached xs (each pack_entry es ++ bs) ≡ each pack_entry (still_cached xs es)
-compact_packed xs [] bs w = compact_none xs bs w ∙ ap (each pack_entry) (sym (no_entries xs))
+compact_packed : (xs : List EntrySeqno) (es : List Entry) (bs : List BlockCacheEntry) → Numbered xs es → still_cached xs (map pack_entry es ++ bs) ≡ map pack_entry (still_cached xs es)
+compact_packed xs [] bs w = compact_none xs bs w ∙ ap (map pack_entry) (sym (no_entries xs))
 compact_packed [] (e ∷ es) bs w = absurd w
 compact_packed (x ∷ xs) (e ∷ es) bs w =
     let ih = compact_packed xs es bs w.1 in on x.cached (λ c. rw c (ap (λ (r : List BlockCacheEntry). pack_entry e ∷ r) ih)) (λ c. rw c ih)
@@ -309,15 +301,14 @@ compact_shard_packed : (s : GroupSeqnos) (g : ShardModel) → Numbered s.entries
 unfolding padded
 compact_shard_packed s g w =
     let es = g.group.entries in
-    let a : still_cached s.entries (pack_group g.group).entries ≡ each pack_entry (still_cached s.entries es) =
-    compact_packed s.entries es (replicate (16 - length (each pack_entry es)) zero_entry) w in
+    let a : still_cached s.entries (pack_group g.group).entries ≡ map pack_entry (still_cached s.entries es) =
+    compact_packed s.entries es (replicate (16 - length (map pack_entry es)) zero_entry) w in
     let b : length (still_cached s.entries (pack_group g.group).entries) ≡ length (still_cached s.entries es) = ap length a ∙ length_each pack_entry (still_cached s.entries es) in
-    let c = sym (pack_view_mark s.mark) in
-    λ i. record { shard = g.shard; group = record { entries = padded 16 zero_entry (a i); count = b i; mark = c i; boundary = pack_boundary g.group.boundary } }
+    λ i. record { shard = g.shard; group = record { entries = padded 16 zero_entry (a i); count = b i; mark = s.mark; boundary = g.group.boundary } }
 
 compact_zero : compact_shard zero_shard_group no_seqnos ≡ zero_shard_group
 unfolding zero_shard_group zero_group no_seqnos no_seqno_here
-compact_zero = let e = padded_nil 16 zero_entry in λ i. record { shard = zero_shard; group = record { entries = e i; count = 0; mark = no_mark; boundary = no_boundary } }
+compact_zero = let e = padded_nil 16 zero_entry in λ i. record { shard = zero_shard; group = record { entries = e i; count = 0; mark = None; boundary = None } }
 
 compact_empty : (is : List ShardIdent) (ss : List GroupSeqnos) → Indexed is ss [] → compact_shards (replicate (length ss) zero_shard_group) ss ≡ replicate (length ss) zero_shard_group
 compact_empty [] [] w = refl
@@ -327,11 +318,11 @@ compact_empty (x ∷ is) (s ∷ ss) w = ap₂ (λ (y : ShardGroup) (r : List Sha
 
 -- the groups moved together are those that are now, packed
 pub compact_shards_packed : (m : ℕ) (is : List ShardIdent) (ss : List GroupSeqnos) (gs : List ShardModel) → Indexed is ss gs → length ss ≡ length gs + m →
-    compact_shards (each pack_shard gs ++ replicate m zero_shard_group) ss ≡ each pack_shard (now_shards ss gs) ++ replicate m zero_shard_group
+    compact_shards (map pack_shard gs ++ replicate m zero_shard_group) ss ≡ map pack_shard (now_shards ss gs) ++ replicate m zero_shard_group
 compact_shards_packed m is ss [] w l =
     let e : length ss ≡ m = omega arith in
     ap (λ (k : ℕ). compact_shards (replicate k zero_shard_group) ss) (sym e) ∙ compact_empty is ss w ∙ ap (λ (k : ℕ). replicate k zero_shard_group) e
-    ∙ ap (λ (x : List ShardModel). each pack_shard x ++ replicate m zero_shard_group) (sym (no_groups ss))
+    ∙ ap (λ (x : List ShardModel). map pack_shard x ++ replicate m zero_shard_group) (sym (no_groups ss))
 compact_shards_packed m [] [] (g ∷ gs) w l = absurd w
 compact_shards_packed m [] (s ∷ ss) (g ∷ gs) w l = absurd w
 compact_shards_packed m (x ∷ is) [] (g ∷ gs) w l = absurd w

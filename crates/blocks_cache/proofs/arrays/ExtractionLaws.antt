@@ -1,14 +1,12 @@
 -- What extraction does to the arrays: one turn of its small loops, and the first place of those that pass.
 -- Assumes nothing.
+use Rattle.std.specs.Prelude.{map, Err, None, Ok, Result, Some}
 use Rattle.std.proofs.Common.{◌≡◌, ℕ, zero, suc, ◌+◌, ◌-◌, ◌<◌, ◌≤◌, Bool, true, false, List, [], ◌∷◌, ◌++◌, length, get_or, take, drop, set, replicate, sym, refl, ap, ◌∙◌, subst, append_assoc, append-nil, le_of_suc-le-suc, arith, length-append, length-drop, drop_of_length-le, length-take, length-take-le, take_all, drop-cons, get_or-take}
 use native.Mathlib.Nat.{suc_inj}
 use lib.Seq.{get_or_at, set_at}
 use Rattle.block_records.specs.declared.block_id.BlockId.{BlockId}
 use Rattle.block_records.specs.declared.block_id.ShardIdent.{ShardIdent}
-use Rattle.block_records.specs.declared.place.Place.{Place}
-use Rattle.block_records.specs.declared.place.Place.TheVariants.{At as place_at, Vacant as vacant_at}
 use Rattle.blocks_cache.specs.declared.cache.ShardGroup.{ShardGroup}
-use Rattle.blocks_cache.specs.declared.lookup.BlockPlace.TheVariants.{Absent as block_absent, At as block_found}
 use Rattle.blocks_cache.specs.declared.lookup.GroupSeqnos.{GroupSeqnos}
 use Rattle.block_records.proofs.arrays.ArrayLaws.{get_d_any, padded_full}
 use Rattle.block_records.proofs.arrays.LoopLaws.{drop_next, left, left_start, padded_nil, set_padded, take_more}
@@ -16,7 +14,7 @@ use Rattle.block_records.proofs.rules.ListLaws.{length_each}
 use Rattle.block_records.proofs.rules.Tests.{on}
 use Rattle.block_records.specs.arrays.Place.{first_place}
 use Rattle.block_records.specs.rules.BlockId.{id_shard}
-use Rattle.block_records.specs.rules.Lists.{each, padded}
+use Rattle.block_records.specs.rules.Lists.{padded}
 use Rattle.blocks_cache.specs.arrays.Extraction.{backwards, compact_shard, compact_shards}
 use Rattle.blocks_cache.specs.arrays.Lookup.{block_place, cached_at, no_seqnos, place_in, place_of}
 use Rattle.blocks_cache.specs.arrays.Shards.{ident_at}
@@ -24,8 +22,8 @@ use Rattle.blocks_cache.specs.arrays.Shards.{ident_at}
 -- ===== the whole array =====
 
 -- f of each of an array's elements fills an array of as many places
-pub each_all : {A B : Type 0} (f : A → B) (n : ℕ) (z : B) (xs : List A) → length xs ≡ n → padded n z (each f (take n xs)) ≡ each f xs
-each_all f n z xs l = rw (take_all n xs (omega arith)) (padded_full n z (each f xs) (omega (arith, length_each f xs)))
+pub each_all : {A B : Type 0} (f : A → B) (n : ℕ) (z : B) (xs : List A) → length xs ≡ n → padded n z (map f (take n xs)) ≡ map f xs
+each_all f n z xs l = rw (take_all n xs (omega arith)) (padded_full n z (map f xs) (omega (arith, length_each f xs)))
 
 -- before the first turn of a search all is left
 pub first_start : {A : Type 0} (p : A → Bool) (n : ℕ) (xs : List A) → length xs ≡ n → first_place p 0 xs ≡ first_place p 0 (left xs n 0)
@@ -45,26 +43,26 @@ module _ {A : Type 0} (p : A → Bool) where
   NonePasses (x ∷ xs) = (p x ≡ false) × NonePasses xs
 
   -- what the search says of the list from place i on
-  abbrev Says : ℕ → List A → Place → Type 0
-  Says i xs (place_at k) = (j : ℕ) × (k ≡ i + j) × FirstAt xs j
-  Says i xs (vacant_at k) = NonePasses xs
+  abbrev Says : ℕ → List A → Result ℕ ℕ → Type 0
+  Says i xs (Ok k) = (j : ℕ) × (k ≡ i + j) × FirstAt xs j
+  Says i xs (Err k) = NonePasses xs
 
-  says_more : (i : ℕ) (x : A) (xs : List A) (f : Place) → p x ≡ false → Says (suc i) xs f → Says i (x ∷ xs) f
-  says_more i x xs (place_at k) t s = (suc s.0, omega (arith, s.1), (t, s.2))
-  says_more i x xs (vacant_at k) t s = (t, s)
+  says_more : (i : ℕ) (x : A) (xs : List A) (f : Result ℕ ℕ) → p x ≡ false → Says (suc i) xs f → Says i (x ∷ xs) f
+  says_more i x xs (Ok k) t s = (suc s.0, omega (arith, s.1), (t, s.2))
+  says_more i x xs (Err k) t s = (t, s)
 
   says : (i : ℕ) (xs : List A) → Says i xs (first_place p i xs)
   says i [] = tt
   says i (x ∷ xs) =
       on (p x) (λ t. rw t (0, omega arith, t)) (λ t. rw t (says_more i x xs (first_place p (suc i) xs) t (says (suc i) xs)))
 
-  pub first_at : (xs : List A) (k : ℕ) → first_place p 0 xs ≡ place_at k → FirstAt xs k
+  pub first_at : (xs : List A) (k : ℕ) → first_place p 0 xs ≡ Ok k → FirstAt xs k
   first_at xs k e =
-      let s : Says 0 xs (place_at k) = subst (Says 0 xs) e (says 0 xs) in
+      let s : Says 0 xs (Ok k) = subst (Says 0 xs) e (says 0 xs) in
       let q : s.0 ≡ k = omega (arith, s.1) in
       subst (FirstAt xs) q s.2
 
-  pub none_passes : (xs : List A) (k : ℕ) → first_place p 0 xs ≡ vacant_at k → NonePasses xs
+  pub none_passes : (xs : List A) (k : ℕ) → first_place p 0 xs ≡ Err k → NonePasses xs
   none_passes xs k e = subst (Says 0 xs) e (says 0 xs)
 
   pub first_within : (xs : List A) (k : ℕ) → FirstAt xs k → k < length xs
@@ -76,11 +74,11 @@ module _ {A : Type 0} (p : A → Bool) where
 
 module _ (i : BlockId) (idents : List ShardIdent) (seqnos : List GroupSeqnos) (s : ShardIdent) (e : s ≡ id_shard i) where
   -- no group of the shard
-  pub no_shard_there : (k : ℕ) → first_place (ident_at s) 0 idents ≡ vacant_at k → block_absent ≡ block_place i idents seqnos
+  pub no_shard_there : (k : ℕ) → first_place (ident_at s) 0 idents ≡ Err k → None ≡ block_place i idents seqnos
   unfolding block_place
   no_shard_there k f = sym (ap (place_of i seqnos) (ap (λ (t : ShardIdent). first_place (ident_at t) 0 idents) (sym e) ∙ f))
 
-  module _ (k : ℕ) (f : first_place (ident_at s) 0 idents ≡ place_at k) where
+  module _ (k : ℕ) (f : first_place (ident_at s) 0 idents ≡ Ok k) where
     pub shard_within : k < length idents
     shard_within = first_within (ident_at s) idents k (first_at (ident_at s) idents k f)
 
@@ -91,31 +89,32 @@ module _ (i : BlockId) (idents : List ShardIdent) (seqnos : List GroupSeqnos) (s
         ∙ ap (λ (g : GroupSeqnos). place_in k (first_place (cached_at i.seqno) 0 g.entries)) (get_d_any seqnos k no_seqnos d l)
 
     -- no entry of the seqno in it, or one
-    pub no_entry_there : (d : GroupSeqnos) (j : ℕ) → k < length seqnos → first_place (cached_at i.seqno) 0 (get_or seqnos k d).entries ≡ vacant_at j → block_absent ≡ block_place i idents seqnos
+    pub no_entry_there : (d : GroupSeqnos) (j : ℕ) → k < length seqnos → first_place (cached_at i.seqno) 0 (get_or seqnos k d).entries ≡ Err j → None ≡ block_place i idents seqnos
     no_entry_there d j l g = sym (in_its_group d l ∙ ap (place_in k) g)
 
-    pub entry_there : (d : GroupSeqnos) (j : ℕ) → k < length seqnos → first_place (cached_at i.seqno) 0 (get_or seqnos k d).entries ≡ place_at j → block_found k j ≡ block_place i idents seqnos
+    pub entry_there : (d : GroupSeqnos) (j : ℕ) → k < length seqnos → first_place (cached_at i.seqno) 0 (get_or seqnos k d).entries ≡ Ok j → Some (k, j) ≡ block_place i idents seqnos
     entry_there d j l g = sym (in_its_group d l ∙ ap (place_in k) g)
 
 -- what a place says: the group of the shard, and the entry of the seqno in it
 module _ (i : BlockId) (idents : List ShardIdent) (seqnos : List GroupSeqnos) (k j : ℕ) where
   pub record Placed : Type 0 where
-    pub group : first_place (ident_at (id_shard i)) 0 idents ≡ place_at k
-    pub entry : first_place (cached_at i.seqno) 0 (get_or seqnos k no_seqnos).entries ≡ place_at j
+    pub group : first_place (ident_at (id_shard i)) 0 idents ≡ Ok k
+    pub entry : first_place (cached_at i.seqno) 0 (get_or seqnos k no_seqnos).entries ≡ Ok j
 
-  entry_placed : (n : ℕ) (o : Place) → first_place (ident_at (id_shard i)) 0 idents ≡ place_at n → first_place (cached_at i.seqno) 0 (get_or seqnos n no_seqnos).entries ≡ o →
-      place_in n o ≡ block_found k j → Placed
-  entry_placed n (place_at m) f g e =
-      let p : n ≡ k = cc in
-      let q : m ≡ j = cc in
-      record { group = f ∙ ap place_at p; entry = subst (λ (x : ℕ). first_place (cached_at i.seqno) 0 (get_or seqnos x no_seqnos).entries ≡ place_at j) p (g ∙ ap place_at q) }
-  entry_placed n (vacant_at m) f g e = let z : ◌≡◌ {A = ℕ} 0 1 = cc in absurd (omega arith)
+  entry_placed : (n : ℕ) (o : Result ℕ ℕ) → first_place (ident_at (id_shard i)) 0 idents ≡ Ok n → first_place (cached_at i.seqno) 0 (get_or seqnos n no_seqnos).entries ≡ o →
+      place_in n o ≡ Some (k, j) → Placed
+  entry_placed n (Ok m) f g e =
+      let both : ◌≡◌ {A = ℕ × ℕ} (n, m) (k, j) = cc in
+      let p : n ≡ k = ap (λ (x : ℕ × ℕ). x.0) both in
+      let q : m ≡ j = ap (λ (x : ℕ × ℕ). x.1) both in
+      record { group = f ∙ ap Ok p; entry = subst (λ (x : ℕ). first_place (cached_at i.seqno) 0 (get_or seqnos x no_seqnos).entries ≡ Ok j) p (g ∙ ap Ok q) }
+  entry_placed n (Err m) f g e = let z : ◌≡◌ {A = ℕ} 0 1 = cc in absurd (omega arith)
 
-  group_placed : (o : Place) → first_place (ident_at (id_shard i)) 0 idents ≡ o → place_of i seqnos o ≡ block_found k j → Placed
-  group_placed (place_at n) f e = entry_placed n (first_place (cached_at i.seqno) 0 (get_or seqnos n no_seqnos).entries) f refl e
-  group_placed (vacant_at n) f e = let z : ◌≡◌ {A = ℕ} 0 1 = cc in absurd (omega arith)
+  group_placed : (o : Result ℕ ℕ) → first_place (ident_at (id_shard i)) 0 idents ≡ o → place_of i seqnos o ≡ Some (k, j) → Placed
+  group_placed (Ok n) f e = entry_placed n (first_place (cached_at i.seqno) 0 (get_or seqnos n no_seqnos).entries) f refl e
+  group_placed (Err n) f e = let z : ◌≡◌ {A = ℕ} 0 1 = cc in absurd (omega arith)
 
-  pub placed : block_place i idents seqnos ≡ block_found k j → Placed
+  pub placed : block_place i idents seqnos ≡ Some (k, j) → Placed
   unfolding block_place
   placed e = group_placed (first_place (ident_at (id_shard i)) 0 idents) refl e
 

@@ -1,18 +1,16 @@
 -- The loop of extraction, turn by turn, is the rule's: after `head` ids taken its arrays hold what the rule has made of so many ids.
 -- Assumes nothing.
+use Rattle.std.specs.Prelude.{Option, None, Some, map, Ok}
 use Rattle.std.proofs.Common.{◌≡◌, ℕ, zero, suc, ◌+◌, ◌-◌, ◌*◌, ◌<◌, ◌≤◌, true, false, eqb, List, [], ◌∷◌, ◌++◌, length, get_or, take, drop, set, replicate, sym, refl, ap, ◌∙◌, subst, subst₂, append_assoc, le_refl, arith, length-append, length-set, take-append-drop, drop_of_length-le, length-take-le, get_or-take, eq-eqb, ne_eqb}
-use mathlib.Core.Option.{Option, none, some}
 use lib.Seq.{drop-append-le, set_at, take-append-add}
 use Rattle.block_records.specs.declared.block_id.BlockId.{BlockId}
 use Rattle.block_records.specs.declared.block_id.ShardIdent.{ShardIdent}
 use Rattle.block_records.specs.declared.entry.BlockCacheEntry.{BlockCacheEntry}
 use Rattle.block_records.specs.declared.entry.MasterBlock.{MasterBlock}
-use Rattle.block_records.specs.declared.place.Place.TheVariants.{At as place_at}
 use Rattle.blocks_cache.specs.declared.cache.Cache.{Cache}
 use Rattle.blocks_cache.specs.declared.cache.ShardGroup.{ShardGroup}
 use Rattle.blocks_cache.specs.declared.extraction.Extraction.{Extraction}
 use Rattle.blocks_cache.specs.declared.extraction.WaitingList.{WaitingList}
-use Rattle.blocks_cache.specs.declared.lookup.BlockPlace.TheVariants.{Absent as block_absent, At as block_found}
 use Rattle.blocks_cache.specs.declared.lookup.EntrySeqno.{EntrySeqno}
 use Rattle.blocks_cache.specs.declared.lookup.GroupSeqnos.{GroupSeqnos}
 use Rattle.block_records.proofs.arrays.ArrayLaws.{all_get_d, get_d_any, length_padded, length_take_few, take_padded_at, two_places}
@@ -25,7 +23,7 @@ use Rattle.block_records.specs.layout.Entry.{pack_entry, view_shard_entry}
 use Rattle.block_records.specs.layout.Zeros.{zero_entry, zero_id}
 use Rattle.block_records.specs.rules.BlockId.{id_shard, key, listed_tops}
 use Rattle.block_records.specs.rules.Entry.{Entry}
-use Rattle.block_records.specs.rules.Lists.{each, padded}
+use Rattle.block_records.specs.rules.Lists.{padded}
 use Rattle.block_records.specs.rules.Questions.{entry_fits}
 use Rattle.blocks_cache.proofs.arrays.CachedSeqnoLaws.{Indexed, Numbered, cached_leaves, change_in, compact_shards_packed, indexed_set, leaves_numbered, length_now, now_group, now_shards, on_shard_twice}
 use Rattle.blocks_cache.proofs.arrays.ExtractionLaws.{FirstAt, Placed, backwards_twice, length_backwards, placed}
@@ -34,9 +32,7 @@ use Rattle.blocks_cache.specs.arrays.Extraction.{backwards, compact_shards, held
 use Rattle.blocks_cache.specs.arrays.Lookup.{block_place, cached_at, no_seqnos, shard_seqnos}
 use Rattle.blocks_cache.specs.arrays.Shards.{ident_at, shard_ident}
 use Rattle.blocks_cache.specs.layout.Cache.{pack_shard, sound_cache, view, view_shard, zero_shard_group}
-use Rattle.blocks_group.proofs.layout.GroupLaws.{view_pack_mark}
 use Rattle.blocks_group.proofs.rules.GroupLaws.{previous_two}
-use Rattle.blocks_group.specs.layout.Group.{view_mark}
 use Rattle.blocks_group.specs.rules.Group.{GroupModel, refresh, refreshed_mark, with_entries, without}
 use Rattle.blocks_group.specs.rules.Soundness.{fits_in, of_shard}
 use Rattle.cache_rules.proofs.CountLaws.{blocks_cached, records, same_end, shards_blocks}
@@ -92,11 +88,11 @@ queued l n head ps d h k two =
     ∙ drop-append-le head p ps (omega arith)
 
 module _ {A B : Type 0} (f : A → B) where
-  each_snoc : (xs : List A) (x : A) → each f (xs ++ (x ∷ [])) ≡ each f xs ++ (f x ∷ [])
+  each_snoc : (xs : List A) (x : A) → map f (xs ++ (x ∷ [])) ≡ map f xs ++ (f x ∷ [])
   each_snoc [] x = refl
   each_snoc (y ∷ ys) x = ap (λ (r : List B). f y ∷ r) (each_snoc ys x)
 
-  each_backwards : (xs : List A) → each f (backwards xs) ≡ backwards (each f xs)
+  each_backwards : (xs : List A) → map f (backwards xs) ≡ backwards (map f xs)
   each_backwards [] = refl
   each_backwards (x ∷ xs) = each_snoc (backwards xs) x ∙ ap (λ (r : List B). r ++ (f x ∷ [])) (each_backwards xs)
 
@@ -121,7 +117,7 @@ pub record Run (c : Cache) (b : MasterBlock) (idents : List ShardIdent) (seqnos 
   -- the starting ids and the previous ids of all joined, at most two of each
   pub counted : count ≡ length (starting_ids c.zerostate_mc_seqno (view_master b)) + previous_in walk.joined
   pub pairs : previous_in walk.joined ≤ 2 * length walk.joined
-  pub laid : blocks ≡ padded 128 zero_entry (each pack_entry (backwards walk.joined))
+  pub laid : blocks ≡ padded 128 zero_entry (map pack_entry (backwards walk.joined))
   pub joins : joined ≡ length walk.joined
 
 module _ (c : Cache) (ok : sound_cache c ≡ true) (b : MasterBlock) (few : length b.tops.items ≡ 8) where
@@ -144,7 +140,7 @@ module _ (c : Cache) (ok : sound_cache c ≡ true) (b : MasterBlock) (few : leng
         length_take_few b.tops.count b.tops.items,
       )
 
-  pub run_starts : (idents : List ShardIdent) (seqnos : List GroupSeqnos) (list : WaitingList) (z : BlockCacheEntry) → idents ≡ each shard_ident c.shards → seqnos ≡ each shard_seqnos c.shards →
+  pub run_starts : (idents : List ShardIdent) (seqnos : List GroupSeqnos) (list : WaitingList) (z : BlockCacheEntry) → idents ≡ map shard_ident c.shards → seqnos ≡ map shard_seqnos c.shards →
       list ≡ pack_waiting (held_starting_ids c.zerostate_mc_seqno b.tops) → z ≡ zero_entry → Run c b idents seqnos list.ids list.count (replicate 128 z) 0 0
   run_starts idents seqnos list z i s l e =
       record {
@@ -200,11 +196,11 @@ module _ (c : Cache) (ok : sound_cache c ≡ true) (b : MasterBlock) (few : leng
           ∙ ap (λ (k : ℕ). take_times k mc_seqno (first_of c b)) p
 
       -- nothing is cached under its shard and seqno
-      none_turn : block_under w.shards (key id) ≡ none → Run c b idents seqnos ids count blocks joined (head + 1)
+      none_turn : block_under w.shards (key id) ≡ None → Run c b idents seqnos ids count blocks joined (head + 1)
       none_turn e =
           record {
-            walk = take_found mc_seqno id rest w none;
-            turns = next_turns none e;
+            walk = take_found mc_seqno id rest w None;
+            turns = next_turns None e;
             taken = omega (arith, r.taken);
             index = r.index;
             now = r.now;
@@ -222,7 +218,7 @@ module _ (c : Cache) (ok : sound_cache c ≡ true) (b : MasterBlock) (few : leng
       shards_now gs' e = ap (λ (x : List ShardModel). block_under x (key id)) e
 
       -- the group of its shard has place k
-      module _ (k : ℕ) (f : first_place (ident_at (id_shard id)) 0 idents ≡ place_at k) where
+      module _ (k : ℕ) (f : first_place (ident_at (id_shard id)) 0 idents ≡ Ok k) where
         abbrev g : ShardModel
         g = get_or gs k (view_shard zero_shard_group)
 
@@ -230,7 +226,7 @@ module _ (c : Cache) (ok : sound_cache c ≡ true) (b : MasterBlock) (few : leng
         s = get_or seqnos k no_seqnos
 
         -- .. and its entry place j in it
-        module _ (j : ℕ) (q : first_place (cached_at id.seqno) 0 s.entries ≡ place_at j) where
+        module _ (j : ℕ) (q : first_place (cached_at id.seqno) 0 s.entries ≡ Ok j) where
           there : FirstAt (cached_at id.seqno) s.entries j
           there = entry_here c ok id idents seqnos r.index k f j q
 
@@ -246,7 +242,7 @@ module _ (c : Cache) (ok : sound_cache c ≡ true) (b : MasterBlock) (few : leng
           abbrev block_here : Entry
           block_here = get_or es j (view_shard_entry zero_entry)
 
-          found : block_under w.shards (key id) ≡ some block_here
+          found : block_under w.shards (key id) ≡ Some block_here
           found = shards_now (now_shards seqnos gs) r.now ∙ block_looked_up c ok id idents seqnos r.index k f j q
 
           group_ok : sound_shard_model g ≡ true
@@ -275,15 +271,15 @@ module _ (c : Cache) (ok : sound_cache c ≡ true) (b : MasterBlock) (few : leng
           foreign_turn : (block_here.reference ≡ mc_seqno → ⊥) → (s' : GroupSeqnos) → s' ≡ without_seqno j id.seqno s → Run c b idents (set seqnos k s') ids count blocks joined (head + 1)
           foreign_turn v s' p =
               let t : eqb block_here.reference mc_seqno ≡ false = ne_eqb block_here.reference mc_seqno v in
-              let a : take_found mc_seqno id rest w (some block_here) ≡ record { waiting = rest; shards = remove_block (key id) w.shards; joined = w.joined; taken = suc w.taken } = rw t in
+              let a : take_found mc_seqno id rest w (Some block_here) ≡ record { waiting = rest; shards = remove_block (key id) w.shards; joined = w.joined; taken = suc w.taken } = rw t in
               record {
                 walk = record { waiting = rest; shards = remove_block (key id) w.shards; joined = w.joined; taken = suc w.taken };
-                turns = sym a ∙ next_turns (some block_here) found;
+                turns = sym a ∙ next_turns (Some block_here) found;
                 taken = omega (arith, r.taken);
                 index = index_now s' (ap (λ (x : GroupSeqnos). x.entries) p);
                 now =
                     gone_now (λ (x : GroupModel). with_entries (without id.seqno x.entries) x) (without_seqno j id.seqno s)
-                    (λ i. record { entries = entries_now i; mark = view_mark s.mark; boundary = g.group.boundary })
+                    (λ i. record { entries = entries_now i; mark = s.mark; boundary = g.group.boundary })
                     ∙ ap (λ (x : GroupSeqnos). now_shards (set seqnos k x) gs) (sym p);
                 groups = length-set seqnos k s' ∙ r.groups;
                 places = r.places;
@@ -303,8 +299,8 @@ module _ (c : Cache) (ok : sound_cache c ≡ true) (b : MasterBlock) (few : leng
             joined_turns : w' ≡ take_times (head + 1) mc_seqno (first_of c b)
             joined_turns =
                 let t : eqb block_here.reference mc_seqno ≡ true = eq-eqb block_here.reference mc_seqno v in
-                let a : take_found mc_seqno id rest w (some block_here) ≡ w' = rw t in
-                sym a ∙ next_turns (some block_here) found
+                let a : take_found mc_seqno id rest w (Some block_here) ≡ w' = rw t in
+                sym a ∙ next_turns (Some block_here) found
 
             at_block : joined < 128
             at_block = omega (arith, r.joins, ap (λ (x : Walk). length x.joined) joined_turns, records (head + 1) mc_seqno starting gs, few_blocks)
@@ -313,16 +309,16 @@ module _ (c : Cache) (ok : sound_cache c ≡ true) (b : MasterBlock) (few : leng
             at_ids = omega (arith, at_block, r.joins, r.counted, r.pairs, few_starting)
 
             join_turn : (s' s'' : GroupSeqnos) → s' ≡ without_seqno j id.seqno s → s'' ≡ refresh_seqnos id.seqno s' → (y : BlockCacheEntry) → y ≡ pack_entry block_here → (z : BlockId) →
-                Run c b idents (set seqnos k s'') (set (set ids count (get_or y.prev_ids.ids 0 z)) (count + 1) (get_or y.prev_ids.ids 1 z)) (count + y.prev_ids.count)
+                Run c b idents (set seqnos k s'') (set (set ids count (get_or y.prev_ids.items 0 z)) (count + 1) (get_or y.prev_ids.items 1 z)) (count + y.prev_ids.count)
                 (set blocks joined y) (joined + 1) (head + 1)
             join_turn s' s'' p p' y u z =
                 let o : s'' ≡ refresh_seqnos id.seqno (without_seqno j id.seqno s) = p' ∙ ap (refresh_seqnos id.seqno) p in
                 let js = w.joined in
-                let l : length (each pack_entry (backwards js)) ≡ joined = length_each pack_entry (backwards js) ∙ length_backwards js ∙ sym r.joins in
+                let l : length (map pack_entry (backwards js)) ≡ joined = length_each pack_entry (backwards js) ∙ length_backwards js ∙ sym r.joins in
                 let ids' : List BlockId = set (set ids count (get_or (padded 2 zero_id block_here.previous) 0 z)) (count + 1) (get_or (padded 2 zero_id block_here.previous) 1 z) in
                 subst
                 (λ (x : BlockCacheEntry).
-                Run c b idents (set seqnos k s'') (set (set ids count (get_or x.prev_ids.ids 0 z)) (count + 1) (get_or x.prev_ids.ids 1 z)) (count + x.prev_ids.count)
+                Run c b idents (set seqnos k s'') (set (set ids count (get_or x.prev_ids.items 0 z)) (count + 1) (get_or x.prev_ids.items 1 z)) (count + x.prev_ids.count)
                 (set blocks joined x) (joined + 1) (head + 1))
                 (sym u)
                 (record {
@@ -333,7 +329,7 @@ module _ (c : Cache) (ok : sound_cache c ≡ true) (b : MasterBlock) (few : leng
                   now =
                       on_shard_twice (id_shard id) (λ (x : GroupModel). with_entries (without id.seqno x.entries) x) (refresh id.seqno) w.shards
                       ∙ gone_now (λ (x : GroupModel). refresh id.seqno (with_entries (without id.seqno x.entries) x)) (refresh_seqnos id.seqno (without_seqno j id.seqno s))
-                      (λ i. record { entries = entries_now i; mark = view_pack_mark (refreshed_mark id.seqno (view_mark s.mark)) i; boundary = g.group.boundary })
+                      (λ i. record { entries = entries_now i; mark = refreshed_mark id.seqno s.mark; boundary = g.group.boundary })
                       ∙ ap (λ (x : GroupSeqnos). now_shards (set seqnos k x) gs) (sym o);
                   groups = length-set seqnos k s'' ∙ r.groups;
                   places =
@@ -345,18 +341,18 @@ module _ (c : Cache) (ok : sound_cache c ≡ true) (b : MasterBlock) (few : leng
                   pairs = omega (arith, r.pairs, two);
                   laid =
                       ap (λ (x : List BlockCacheEntry). set x joined (pack_entry block_here)) r.laid
-                      ∙ set_padded 128 zero_entry (each pack_entry (backwards js)) joined (pack_entry block_here) l at_block
+                      ∙ set_padded 128 zero_entry (map pack_entry (backwards js)) joined (pack_entry block_here) l at_block
                       ∙ ap (padded 128 zero_entry) (ap (λ (x : List BlockCacheEntry). x ++ (pack_entry block_here ∷ [])) (each_backwards pack_entry js) ∙ sym (each_backwards pack_entry (block_here ∷ js)));
                   joins = omega (arith, r.joins);
                 })
 
       -- the lookup finds nothing
-      pub absent_turn : block_place id idents seqnos ≡ block_absent → Run c b idents seqnos ids count blocks joined (head + 1)
+      pub absent_turn : block_place id idents seqnos ≡ None → Run c b idents seqnos ids count blocks joined (head + 1)
       absent_turn e = none_turn (shards_now (now_shards seqnos gs) r.now ∙ absent_looked_up c ok id idents seqnos r.index e)
 
       -- ===== the lookup finds a block; y, x and u are what the arrays would give past their ends =====
 
-      module _ (k j : ℕ) (p : block_place id idents seqnos ≡ block_found k j) where
+      module _ (k j : ℕ) (p : block_place id idents seqnos ≡ Some (k, j)) where
         q : Placed id idents seqnos k j
         q = placed id idents seqnos k j p
 
@@ -394,7 +390,7 @@ module _ (c : Cache) (ok : sound_cache c ≡ true) (b : MasterBlock) (few : leng
           few_previous = omega (arith, two k q.group j q.entry, ap (λ (n : BlockCacheEntry). n.prev_ids.count) (block_read c ok id idents seqnos r.index k q.group j q.entry y x))
 
           pub read_joins : (u : GroupSeqnos) (s' s'' : GroupSeqnos) → s' ≡ without_seqno j id.seqno (get_or seqnos k u) → s'' ≡ refresh_seqnos id.seqno s' → (z : BlockId) →
-              Run c b idents (set seqnos k s'') (set (set ids count (get_or (read y x).prev_ids.ids 0 z)) (count + 1) (get_or (read y x).prev_ids.ids 1 z)) (count + (read y x).prev_ids.count)
+              Run c b idents (set seqnos k s'') (set (set ids count (get_or (read y x).prev_ids.items 0 z)) (count + 1) (get_or (read y x).prev_ids.items 1 z)) (count + (read y x).prev_ids.count)
               (set blocks joined (read y x)) (joined + 1) (head + 1)
           read_joins u s' s'' n n' z =
               join_turn k q.group j q.entry names s' s'' (n ∙ ap (without_seqno j id.seqno) (old_is u)) n' (read y x) (block_read c ok id idents seqnos r.index k q.group j q.entry y x) z
@@ -413,18 +409,18 @@ module _ (c : Cache) (ok : sound_cache c ≡ true) (b : MasterBlock) (few : leng
         let n : (take_times head mc_seqno (first_of c b)).waiting ≡ [] = ap (λ (x : Walk). x.waiting) (sym r.turns) ∙ nothing_waits h in
         let f : w ≡ extraction_of (view_master b) (view c) = r.turns ∙ same_end head k mc_seqno (first_of c b) n (ends k mc_seqno (first_of c b) (le_refl k)) in
         let js = w.joined in
-        let q : length (each pack_shard (now_shards seqnos gs)) ≡ length (each pack_shard gs) =
+        let q : length (map pack_shard (now_shards seqnos gs)) ≡ length (map pack_shard gs) =
         length_each pack_shard (now_shards seqnos gs) ∙ length_now idents seqnos gs r.index ∙ sym (length_each pack_shard gs) in
-        let p : left ≡ padded 8 zero_shard_group (each pack_shard w.shards) =
+        let p : left ≡ padded 8 zero_shard_group (map pack_shard w.shards) =
         a ∙ ap (λ (x : List ShardGroup). compact_shards x seqnos) (held_is c ok)
-        ∙ compact_shards_packed (8 - length (each pack_shard gs)) idents seqnos gs r.index (omega (arith, r.groups, few_groups c ok, length_each pack_shard gs))
-        ∙ ap (λ (x : ℕ). each pack_shard (now_shards seqnos gs) ++ replicate (8 - x) zero_shard_group) (sym q)
-        ∙ ap (λ (x : List ShardModel). padded 8 zero_shard_group (each pack_shard x)) (sym r.now) in
-        let l : length (each pack_entry (backwards js)) ≡ joined = length_each pack_entry (backwards js) ∙ length_backwards js ∙ sym r.joins in
-        let o : subgraph ≡ padded 128 zero_entry (each pack_entry js) =
+        ∙ compact_shards_packed (8 - length (map pack_shard gs)) idents seqnos gs r.index (omega (arith, r.groups, few_groups c ok, length_each pack_shard gs))
+        ∙ ap (λ (x : ℕ). map pack_shard (now_shards seqnos gs) ++ replicate (8 - x) zero_shard_group) (sym q)
+        ∙ ap (λ (x : List ShardModel). padded 8 zero_shard_group (map pack_shard x)) (sym r.now) in
+        let l : length (map pack_entry (backwards js)) ≡ joined = length_each pack_entry (backwards js) ∙ length_backwards js ∙ sym r.joins in
+        let o : subgraph ≡ padded 128 zero_entry (map pack_entry js) =
         e ∙ ap (λ (x : List BlockCacheEntry). padded 128 zero_entry (backwards (take joined x))) r.laid
-        ∙ ap (λ (x : List BlockCacheEntry). padded 128 zero_entry (backwards x)) (take_padded_at 128 zero_entry (each pack_entry (backwards js)) joined l ∙ each_backwards pack_entry js)
-        ∙ ap (padded 128 zero_entry) (backwards_twice (each pack_entry js)) in
+        ∙ ap (λ (x : List BlockCacheEntry). padded 128 zero_entry (backwards x)) (take_padded_at 128 zero_entry (map pack_entry (backwards js)) joined l ∙ each_backwards pack_entry js)
+        ∙ ap (padded 128 zero_entry) (backwards_twice (map pack_entry js)) in
         let z : ◌≡◌ {A = Extraction} (record { shards = left; blocks = subgraph; joined = joined; taken = head }) (pack_extraction w) =
         λ i. record { shards = p i; blocks = o i; joined = r.joins i; taken = sym r.taken i } in
         z ∙ ap pack_extraction f

@@ -1,23 +1,21 @@
 -- Peek on a cache as it is held is the rule on its model; its result has zeros in what its answer does not use.
 -- Assumes nothing.
+use Rattle.block_records.specs.declared.questions.Refusal.{Refusal}
+use Rattle.block_records.specs.declared.questions.Refusal.TheVariants.{SeqnoLimit, Unsound}
+use Rattle.std.specs.Prelude.{Option, option_map, None, Some, map, filter, Err, Ok, Result}
 use Rattle.std.proofs.Common.{◌≡◌, ℕ, ◌+◌, ◌<◌, ◌≤◌, true, false, eqb, List, [], ◌∷◌, ◌++◌, length, get_or, take, set, replicate, sym, refl, ap, ◌∙◌, ap₂, append_assoc, append-nil, arith, length-append, eq-eqb, ne_eqb}
-use mathlib.Core.Option.{Option, map, none, some}
 use Rattle.block_records.specs.declared.block_id.BlockIdShort.{BlockIdShort}
 use Rattle.block_records.specs.declared.block_id.ShardIdent.{ShardIdent}
 use Rattle.block_records.specs.declared.entry.BlockCacheEntry.{BlockCacheEntry}
 use Rattle.block_records.specs.declared.entry.MasterBlock.{MasterBlock}
-use Rattle.block_records.specs.declared.place.Place.{Place}
-use Rattle.block_records.specs.declared.place.Place.TheVariants.{At as place_at, Vacant as vacant_at}
 use Rattle.block_records.specs.declared.top_block.TopBlock.{TopBlock}
-use Rattle.block_records.specs.declared.top_block.TopBlocks.{TopBlocks}
+use Rattle.block_records.specs.layout.Listed.{TopBlocks}
 use Rattle.blocks_cache.specs.declared.cache.Cache.{Cache}
 use Rattle.blocks_cache.specs.declared.cache.ShardGroup.{ShardGroup}
-use Rattle.blocks_cache.specs.declared.lookup.BlockPlace.TheVariants.{Absent as block_absent, At as block_found}
 use Rattle.blocks_cache.specs.declared.lookup.GroupSeqnos.{GroupSeqnos}
-use Rattle.blocks_cache.specs.declared.peek.MissingTop.TheVariants.{Absent as no_missing, At as missing_at}
 use Rattle.blocks_cache.specs.declared.peek.Peek.{Peek}
 use Rattle.blocks_cache.specs.declared.peek.PeekAnswer.{PeekAnswer}
-use Rattle.blocks_cache.specs.declared.peek.PeekAnswer.TheVariants.{Found as peek_found, Nothing as peek_nothing, Refused as peek_refused}
+use Rattle.blocks_cache.specs.declared.peek.PeekAnswer.TheVariants.{Found as peek_found, Nothing as peek_nothing}
 use Rattle.blocks_cache.specs.declared.peek.PeekRow.{PeekRow}
 use Rattle.blocks_cache.specs.declared.peek.TopRows.{TopRows}
 use Rattle.blocks_group.specs.declared.group.MasterAt.{MasterAt}
@@ -29,7 +27,7 @@ use Rattle.block_records.proofs.rules.Tests.{on}
 use Rattle.block_records.specs.layout.Entry.{pack_entry, pack_master, pack_tops}
 use Rattle.block_records.specs.rules.BlockId.{key, listed_tops}
 use Rattle.block_records.specs.rules.Entry.{Entry}
-use Rattle.block_records.specs.rules.Lists.{each, padded, select}
+use Rattle.block_records.specs.rules.Lists.{padded}
 use Rattle.block_records.specs.rules.Questions.{ask, seqno_fits}
 use Rattle.blocks_cache.proofs.arrays.LookupLaws.{cached_at_place, cached_block_packed, not_cached}
 use Rattle.blocks_cache.proofs.layout.CallLaws.{unsound_answers_1}
@@ -50,9 +48,9 @@ use Rattle.cache_rules.specs.Refusals.{further, sound_model}
 
 -- ===== on a packed cache =====
 
-row_packed : (m : ℕ) (t : TopBlock) (o : Option Entry) (rest : View) → held_seen_top t (naming_row m t (map pack_entry o)) rest ≡ seen_top m t o rest
-row_packed m t none rest = refl
-row_packed m t (some e) rest = on (eqb e.reference m) (λ u. rw u) (λ u. rw u)
+row_packed : (m : ℕ) (t : TopBlock) (o : Option Entry) (rest : View) → held_seen_top t (naming_row m t (option_map pack_entry o)) rest ≡ seen_top m t o rest
+row_packed m t None rest = refl
+row_packed m t (Some e) rest = on (eqb e.reference m) (λ u. rw u) (λ u. rw u)
 
 tops_packed : (n : ℕ) (m : Model) → sound_model m ≡ true → (ts : List TopBlock) → held_view_tops n (pack m) ts ≡ view_tops n m.shards ts
 unfolding top_row
@@ -61,35 +59,35 @@ tops_packed n m ok (t ∷ ts) =
     ap₂ (λ (o : Option BlockCacheEntry) (v : View). held_seen_top t (naming_row n t o) v) (cached_block_packed m ok t.block_id) (tops_packed n m ok ts)
     ∙ row_packed n t (block_under m.shards (key t.block_id)) (view_tops n m.shards ts)
 
-view_pack_rows : (rs : List Row) → each view_row (each pack_row rs) ≡ rs
+view_pack_rows : (rs : List Row) → map view_row (map pack_row rs) ≡ rs
 view_pack_rows [] = refl
 view_pack_rows (r ∷ rs) = ap (λ (x : List Row). r ∷ x) (view_pack_rows rs)
 
 view_pack_missing : (o : Option BlockIdShort) → view_missing (pack_missing o) ≡ o
-view_pack_missing none = refl
-view_pack_missing (some k) = refl
+view_pack_missing None = refl
+view_pack_missing (Some k) = refl
 
 -- what a view is packed into says that view
 view_said : (c : Cache) (row : Row) (v : View) → peek_outcome c (found_peek (pack_row row) (pack_view v)) ≡ record { cache = c; answer = peeked row v; slice = [] }
 view_said c row v =
-    let a = ap (each view_row) (take_padded_each 8 zero_row pack_row v.rows) ∙ view_pack_rows v.rows in
+    let a = ap (map view_row) (take_padded_each 8 zero_row pack_row v.rows) ∙ view_pack_rows v.rows in
     let b = view_pack_missing v.missing in
     λ i. record { cache = c; answer = peeked row (record { rows = a i; missing = b i }); slice = [] }
 
-zero_said : (c : Cache) (a : PeekAnswer) → peek_outcome c (zero_peek a) ≡ record { cache = c; answer = peek_says a (zero_peek a); slice = [] }
+zero_said : (c : Cache) (a : Result PeekAnswer Refusal) → peek_outcome c (zero_peek a) ≡ record { cache = c; answer = peek_says a (zero_peek a); slice = [] }
 unfolding zero_peek
 zero_said c a = refl
 
-entry_peeked : (m : Model) → sound_model m ≡ true → (o : Option Entry) → peek_outcome (pack m) (peek_block (pack m) (map pack_master o)) ≡ pack_outcome (outcome_of (peek_entry o m) [])
-entry_peeked m ok none = zero_said (pack m) peek_nothing
-entry_peeked m ok (some M) =
+entry_peeked : (m : Model) → sound_model m ≡ true → (o : Option Entry) → peek_outcome (pack m) (peek_block (pack m) (option_map pack_master o)) ≡ pack_outcome (outcome_of (peek_entry o m) [])
+entry_peeked m ok None = zero_said (pack m) (Ok peek_nothing)
+entry_peeked m ok (Some M) =
     let row : Row = record { id = M.id; reference = M.reference; payload = M.payload } in
-    let v : held_view_tops M.id.seqno (pack m) (select (starts m.zerostate) (listed_tops (pack_tops M.tops))) ≡ view_tops M.id.seqno m.shards (starting_items m.zerostate M) =
-    ap (λ (ts : List TopBlock). held_view_tops M.id.seqno (pack m) (select (starts m.zerostate) ts)) (view_pack_tops M.tops)
+    let v : held_view_tops M.id.seqno (pack m) (filter (starts m.zerostate) (listed_tops (pack_tops M.tops))) ≡ view_tops M.id.seqno m.shards (starting_items m.zerostate M) =
+    ap (λ (ts : List TopBlock). held_view_tops M.id.seqno (pack m) (filter (starts m.zerostate) ts)) (view_pack_tops M.tops)
     ∙ tops_packed M.id.seqno m ok (starting_items m.zerostate M) in
     ap (λ (x : View). peek_outcome (pack m) (found_peek (pack_row row) (pack_view x))) v ∙ view_said (pack m) row (view_tops M.id.seqno m.shards (starting_items m.zerostate M))
 
-pub peek_packed : (f : ℕ) (m : Model) → sound_model m ≡ true → peek_outcome (pack m) (held_peek f (pack m)) ≡ pack_outcome (answered none m (unlent (peek f)))
+pub peek_packed : (f : ℕ) (m : Model) → sound_model m ≡ true → peek_outcome (pack m) (held_peek f (pack m)) ≡ pack_outcome (answered None m (unlent (peek f)))
 unfolding held_peek effect
 peek_packed f m ok =
     ap (λ (o : Option MasterBlock). peek_outcome (pack m) (peek_block (pack m) o)) (first_applied_packed f m.masters) ∙ entry_peeked m ok (first_applied f m)
@@ -98,22 +96,22 @@ peek_packed f m ok =
 
 found_zeroed : (row : PeekRow) (v : View) → found_peek row (pack_view v) ≡ zeroed_peek (found_peek row (pack_view v))
 found_zeroed row v =
-    let e : each pack_row v.rows ≡ take (length v.rows) (padded 8 zero_row (each pack_row v.rows)) = sym (take_padded_each 8 zero_row pack_row v.rows) in
-    let n : length v.rows ≡ length (take (length v.rows) (padded 8 zero_row (each pack_row v.rows))) = sym (length_each pack_row v.rows) ∙ ap (λ (xs : List PeekRow). length xs) e in
-    λ i. record { answer = peek_found; master = row; tops = padded 8 zero_row (e i); count = n i; missing = pack_missing v.missing }
+    let e : map pack_row v.rows ≡ take (length v.rows) (padded 8 zero_row (map pack_row v.rows)) = sym (take_padded_each 8 zero_row pack_row v.rows) in
+    let n : length v.rows ≡ length (take (length v.rows) (padded 8 zero_row (map pack_row v.rows))) = sym (length_each pack_row v.rows) ∙ ap (λ (xs : List PeekRow). length xs) e in
+    λ i. record { answer = Ok peek_found; master = row; tops = padded 8 zero_row (e i); count = n i; missing = pack_missing v.missing }
 
 block_zeroed : (c : Cache) (o : Option MasterBlock) → peek_block c o ≡ zeroed_peek (peek_block c o)
 unfolding zero_peek
-block_zeroed c none = refl
-block_zeroed c (some b) =
+block_zeroed c None = refl
+block_zeroed c (Some b) =
     found_zeroed (record { block_id = b.entry.block_id; ref_by_mc_seqno = b.entry.ref_by_mc_seqno; payload = b.entry.payload })
-    (held_view_tops b.entry.block_id.seqno c (select (starts c.zerostate_mc_seqno) (listed_tops b.tops)))
+    (held_view_tops b.entry.block_id.seqno c (filter (starts c.zerostate_mc_seqno) (listed_tops b.tops)))
 
 pub peek_zeroed : (f : ℕ) (c : Cache) → held_peek f c ≡ zeroed_peek (held_peek f c)
 unfolding held_peek
 peek_zeroed f c = block_zeroed c (answered_master (first_applied_master f c.masters))
 
-pub refused_zeroed : (n : ℕ) → zero_peek (peek_refused n) ≡ zeroed_peek (zero_peek (peek_refused n))
+pub refused_zeroed : (n : Refusal) → zero_peek (Err n) ≡ zeroed_peek (zero_peek (Err n))
 unfolding zero_peek
 refused_zeroed n = refl
 
@@ -123,48 +121,48 @@ abbrev Peeked : Cache → ℕ → Peek → Type 0
 Peeked c f r = (peek_outcome c r ≡ call_on c (unlent (peek f))) × (r ≡ zeroed_peek r)
 
 module _ (c : Cache) (f : ℕ) (r : Peek) where
-  pub peek_unsound : sound_cache c ≡ false → r ≡ zero_peek (peek_refused 1) → Peeked c f r
-  peek_unsound h e = rw e (zero_said c (peek_refused 1) ∙ sym (unsound_answers_1 c (unlent (peek f)) h), refused_zeroed 1)
+  pub peek_unsound : sound_cache c ≡ false → r ≡ zero_peek (Err Unsound) → Peeked c f r
+  peek_unsound h e = rw e (zero_said c (Err Unsound) ∙ sym (unsound_answers_1 c (unlent (peek f)) h), refused_zeroed Unsound)
 
   module _ (ok : sound_cache c ≡ true) where
-    asked_from : further (view c) 0 (peek f) ≡ (ask 2 (seqno_fits f) ∷ []) ++ []
+    asked_from : further (view c) 0 (peek f) ≡ (ask SeqnoLimit (seqno_fits f) ∷ []) ++ []
     unfolding further
     asked_from = refl
 
-    pub peek_refuses : seqno_fits f ≡ false → r ≡ zero_peek (peek_refused 2) → Peeked c f r
+    pub peek_refuses : seqno_fits f ≡ false → r ≡ zero_peek (Err SeqnoLimit) → Peeked c f r
     peek_refuses h e =
-        rw e (zero_said c (peek_refused 2) ∙ sym (first_part_refuses c (unlent (peek f)) ok (ask 2 (seqno_fits f) ∷ []) [] asked_from 2 (rw h)), refused_zeroed 2)
+        rw e (zero_said c (Err SeqnoLimit) ∙ sym (first_part_refuses c (unlent (peek f)) ok (ask SeqnoLimit (seqno_fits f) ∷ []) [] asked_from SeqnoLimit (rw h)), refused_zeroed SeqnoLimit)
 
     pub peek_is : seqno_fits f ≡ true → r ≡ held_peek f c → Peeked c f r
     peek_is h e =
         rw e (
           on_sound (unlent (peek f)) (λ (x : Cache). peek_outcome x (held_peek f x)) (λ m. []) (peek_packed f) c ok
-              ∙ sym (second_part_decides c (unlent (peek f)) ok (ask 2 (seqno_fits f) ∷ []) [] asked_from (rw h)),
+              ∙ sym (second_part_decides c (unlent (peek f)) ok (ask SeqnoLimit (seqno_fits f) ∷ []) [] asked_from (rw h)),
           peek_zeroed f c,
         )
 
 -- ===== a top's row =====
 
 -- by the shards and seqnos that were gathered
-module _ (c : Cache) (ok : sound_cache c ≡ true) (m : ℕ) (t : TopBlock) (idents : List ShardIdent) (seqnos : List GroupSeqnos) (of_shards : idents ≡ each shard_ident c.shards)
-    (of_groups : seqnos ≡ each shard_seqnos c.shards) where
-  pub row_absent : block_place t.block_id idents seqnos ≡ block_absent → top_row m c t ≡ none
+module _ (c : Cache) (ok : sound_cache c ≡ true) (m : ℕ) (t : TopBlock) (idents : List ShardIdent) (seqnos : List GroupSeqnos) (of_shards : idents ≡ map shard_ident c.shards)
+    (of_groups : seqnos ≡ map shard_seqnos c.shards) where
+  pub row_absent : block_place t.block_id idents seqnos ≡ None → top_row m c t ≡ None
   unfolding top_row
   row_absent e = ap (naming_row m t) (not_cached c ok t.block_id idents seqnos of_shards of_groups e)
 
   -- a block is found; y and x are what the arrays would give past their ends
-  module _ (k j : ℕ) (e : block_place t.block_id idents seqnos ≡ block_found k j) (y : ShardGroup) (x : BlockCacheEntry) where
+  module _ (k j : ℕ) (e : block_place t.block_id idents seqnos ≡ Some (k, j)) (y : ShardGroup) (x : BlockCacheEntry) where
     abbrev found_block : BlockCacheEntry
     found_block = get_or (get_or c.shards k y).group.entries j x
 
-    row_found : top_row m c t ≡ naming_row m t (some found_block)
+    row_found : top_row m c t ≡ naming_row m t (Some found_block)
     unfolding top_row
     row_found = ap (naming_row m t) (cached_at_place c ok t.block_id idents seqnos of_shards of_groups k j e y x)
 
-    pub row_foreign : (found_block.ref_by_mc_seqno ≡ m → ⊥) → top_row m c t ≡ none
+    pub row_foreign : (found_block.ref_by_mc_seqno ≡ m → ⊥) → top_row m c t ≡ None
     row_foreign o = row_found ∙ rw (ne_eqb found_block.ref_by_mc_seqno m o)
 
-    pub row_naming : found_block.ref_by_mc_seqno ≡ m → top_row m c t ≡ some (record { id = t.block_id; reference = t.ref_by_mc_seqno; payload = found_block.payload })
+    pub row_naming : found_block.ref_by_mc_seqno ≡ m → top_row m c t ≡ Some (record { id = t.block_id; reference = t.ref_by_mc_seqno; payload = found_block.payload })
     row_naming o = row_found ∙ rw (eq-eqb found_block.ref_by_mc_seqno m o)
 
 -- ===== the loop over the starting items =====
@@ -184,12 +182,12 @@ module _ (m : ℕ) (c : Cache) (items : TopBlocks) where
     pub whole : length items.items ≡ 8
     pub seen_rows : List Row
     pub count : n ≡ length seen_rows
-    pub places : out ≡ padded 8 zero_row (each pack_row seen_rows)
+    pub places : out ≡ padded 8 zero_row (map pack_row seen_rows)
     pub rest : held_view_tops m c (listed_tops items) ≡ after_rows seen_rows (from_place n)
 
-  module _ (tops : TopBlocks) (of_starting : items ≡ pack_tops (select (starts c.zerostate_mc_seqno) (listed_tops tops))) where
+  module _ (tops : TopBlocks) (of_starting : items ≡ pack_tops (filter (starts c.zerostate_mc_seqno) (listed_tops tops))) where
     abbrev starting : List TopBlock
-    starting = select (starts c.zerostate_mc_seqno) (listed_tops tops)
+    starting = filter (starts c.zerostate_mc_seqno) (listed_tops tops)
 
     pub view_start : length tops.items ≡ 8 → length items.items ≡ 8 → (z : PeekRow) → z ≡ zero_row → Viewed 0 (replicate 8 z)
     view_start given long z e =
@@ -214,8 +212,8 @@ module _ (m : ℕ) (c : Cache) (items : TopBlocks) where
           let b = v.count in
           (λ j. record { rows = a j; count = b j; gap = pack_missing o }) ∙ ap pack_view (sym q) ∙ ap (λ (x : List TopBlock). pack_view (held_view_tops m c x)) t
 
-      pub view_passed : items.count ≤ n → record { rows = out; count = n; gap = no_missing } ≡ pack_view (held_view_tops m c starting)
-      view_passed h = view_ends none (ap (held_view_tops m c) (left_passed items.items items.count n h))
+      pub view_passed : items.count ≤ n → record { rows = out; count = n; gap = None } ≡ pack_view (held_view_tops m c starting)
+      view_passed h = view_ends None (ap (held_view_tops m c) (left_passed items.items items.count n h))
 
       -- d is any item
       module _ (d : TopBlock) (k : n < items.count) where
@@ -225,15 +223,15 @@ module _ (m : ℕ) (c : Cache) (items : TopBlocks) where
         next : from_place n ≡ held_seen_top item (top_row m c item) (from_place (n + 1))
         next = let f = v.few in let w = v.whole in ap (held_view_tops m c) (left_more items.items items.count n d (omega arith) k)
 
-        pub view_stop : top_row m c item ≡ none → (r : TopRows) → r ≡ record { rows = out; count = n; gap = missing_at (key item.block_id) } → r ≡ pack_view (held_view_tops m c starting)
-        view_stop o r e = e ∙ view_ends (some (key item.block_id)) (next ∙ ap (λ (x : Option Row). held_seen_top item x (from_place (n + 1))) o)
+        pub view_stop : top_row m c item ≡ None → (r : TopRows) → r ≡ record { rows = out; count = n; gap = Some (key item.block_id) } → r ≡ pack_view (held_view_tops m c starting)
+        view_stop o r e = e ∙ view_ends (Some (key item.block_id)) (next ∙ ap (λ (x : Option Row). held_seen_top item x (from_place (n + 1))) o)
 
-        pub view_more : (r : Row) → top_row m c item ≡ some r → Viewed (n + 1) (set out n (pack_row r))
+        pub view_more : (r : Row) → top_row m c item ≡ Some r → Viewed (n + 1) (set out n (pack_row r))
         view_more r o =
             let rs = v.seen_rows in
             let f = v.few in
             let nx = from_place (n + 1) in
-            let len : length (each pack_row rs) ≡ n = length_each pack_row rs ∙ sym v.count in
+            let len : length (map pack_row rs) ≡ n = length_each pack_row rs ∙ sym v.count in
             let w : after_rows rs (record { rows = r ∷ nx.rows; missing = nx.missing }) ≡ after_rows (rs ++ (r ∷ [])) nx =
             ap (λ (xs : List Row). record { rows = xs; missing = nx.missing }) (sym (append_assoc rs (r ∷ []) nx.rows)) in
             record {
@@ -242,7 +240,7 @@ module _ (m : ℕ) (c : Cache) (items : TopBlocks) where
               seen_rows = rs ++ (r ∷ []);
               count = omega (arith, length-append rs (r ∷ []), v.count);
               places =
-                  ap (λ (xs : List PeekRow). set xs n (pack_row r)) v.places ∙ set_padded 8 zero_row (each pack_row rs) n (pack_row r) len (omega arith)
+                  ap (λ (xs : List PeekRow). set xs n (pack_row r)) v.places ∙ set_padded 8 zero_row (map pack_row rs) n (pack_row r) len (omega arith)
                   ∙ ap (padded 8 zero_row) (sym (each_append pack_row rs (r ∷ [])));
               rest = v.rest ∙ ap (after_rows rs) (next ∙ ap (λ (x : Option Row). held_seen_top item x nx) o) ∙ w;
             }
@@ -250,15 +248,15 @@ module _ (m : ℕ) (c : Cache) (items : TopBlocks) where
 -- ===== the master =====
 
 module _ (f : ℕ) (c : Cache) (a : MasterAt) (looked : a ≡ first_applied_master f c.masters) (k : ℕ) where
-  pub peek_vacant : a.found ≡ vacant_at k → (r : Peek) → r ≡ zero_peek peek_nothing → r ≡ held_peek f c
+  pub peek_vacant : a.found ≡ Err k → (r : Peek) → r ≡ zero_peek (Ok peek_nothing) → r ≡ held_peek f c
   unfolding held_peek
   peek_vacant e r q =
-      q ∙ ap (λ (x : Place). peek_block c (when_found x a.block)) (sym e) ∙ ap (λ (x : MasterAt). peek_block c (answered_master x)) looked
+      q ∙ ap (λ (x : Result ℕ ℕ). peek_block c (when_found x a.block)) (sym e) ∙ ap (λ (x : MasterAt). peek_block c (answered_master x)) looked
 
-  pub peek_at : a.found ≡ place_at k → (v : TopRows) →
-      v ≡ pack_view (held_view_tops a.block.entry.block_id.seqno c (select (starts c.zerostate_mc_seqno) (listed_tops a.block.tops))) →
+  pub peek_at : a.found ≡ Ok k → (v : TopRows) →
+      v ≡ pack_view (held_view_tops a.block.entry.block_id.seqno c (filter (starts c.zerostate_mc_seqno) (listed_tops a.block.tops))) →
       found_peek (record { block_id = a.block.entry.block_id; ref_by_mc_seqno = a.block.entry.ref_by_mc_seqno; payload = a.block.entry.payload }) v ≡ held_peek f c
   unfolding held_peek
   peek_at e v q =
       ap (found_peek (record { block_id = a.block.entry.block_id; ref_by_mc_seqno = a.block.entry.ref_by_mc_seqno; payload = a.block.entry.payload })) q
-      ∙ ap (λ (x : Place). peek_block c (when_found x a.block)) (sym e) ∙ ap (λ (x : MasterAt). peek_block c (answered_master x)) looked
+      ∙ ap (λ (x : Result ℕ ℕ). peek_block c (when_found x a.block)) (sym e) ∙ ap (λ (x : MasterAt). peek_block c (answered_master x)) looked

@@ -1,25 +1,26 @@
 -- The received store of the whole cache: each way through the code is a case of its definition, and on a sound cache it is the rule, packed.
 -- Assumes nothing.
+use Rattle.block_records.specs.declared.questions.Refusal.{Refusal}
+use Rattle.block_records.specs.declared.range.AppliedRange.{AppliedRange}
+use Rattle.block_records.specs.declared.questions.Refusal.TheVariants.{AlreadyStored, BeforeZerostate, ForeignReference, NoRoom}
+use Rattle.std.specs.Prelude.{Option, None, Some, cond, is_some, Err, Ok, Result}
 use Rattle.std.proofs.Common.{◌≡◌, ℕ, ◌<◌, ◌≤◌, Bool, true, false, not, ◌||◌, ltb, leb, List, [], ◌∷◌, ◌++◌, length, sym, refl, ap, ◌∙◌, subst, ap₂, le-leb, leb-false, leb-true}
-use mathlib.Core.Option.{Option, none, some}
 use borrow.Author.Tests.{lt-leb}
 use Rattle.block_records.specs.declared.block_id.BlockId.{BlockId}
 use Rattle.block_records.specs.declared.block_id.ShardIdent.{ShardIdent}
 use Rattle.block_records.specs.declared.store_records.ReceivedBlock.{ReceivedBlock}
 use Rattle.blocks_cache.specs.declared.cache.Cache.{Cache}
 use Rattle.blocks_cache.specs.declared.cache.ShardGroup.{ShardGroup}
-use Rattle.blocks_cache.specs.declared.master_data.AppliedRange.{AppliedRange}
 use Rattle.blocks_cache.specs.declared.master_data.MasterData.{MasterData}
 use Rattle.blocks_cache.specs.declared.stores.ShardHeld.{ShardHeld}
 use Rattle.blocks_group.specs.declared.group.MasterGroup.{MasterGroup}
 use Rattle.blocks_group.specs.declared.store.GroupStore.{GroupStore}
 use Rattle.blocks_group.specs.declared.store.MasterStore.{MasterStore}
 use Rattle.blocks_group.specs.declared.store.StoreAnswer.{StoreAnswer}
-use Rattle.blocks_group.specs.declared.store.StoreAnswer.TheVariants.{Refused as refused_answer, Stored as stored_answer, Synced as synced_answer}
+use Rattle.blocks_group.specs.declared.store.StoreAnswer.TheVariants.{Stored as stored_answer, Synced as synced_answer}
 use Rattle.block_records.proofs.rules.Tests.{on}
 use Rattle.block_records.specs.rules.BlockId.{id_shard, is_masterchain, same_id}
 use Rattle.block_records.specs.rules.Entry.{Entry, is_received}
-use Rattle.block_records.specs.rules.Lists.{pick, present}
 use Rattle.block_records.specs.rules.Questions.{Question, ask, first_no, received_questions}
 use Rattle.blocks_cache.proofs.arrays.MasterDataLaws.{drop_ids_from_packed, move_end_packed}
 use Rattle.blocks_cache.proofs.arrays.StoresLaws.{Zeroed, has_room_is, held_packed, master_group_parts, neither, nothing_zeroed, pick_zeroed, shard_group_parts, store_leaves, stored_packed, stored_zeroed, unstored, with_shard_packed}
@@ -42,9 +43,9 @@ module _ (r : ReceivedBlock) (h : Cache) (s : MasterStore) (its_store : s ≡ st
   unfolding store_master_receipt
   master_receipt_is = ap (λ (x : MasterStore). master_receipt_stored r x.answer x.masters h) its_store
 
-pub master_receipt_put : (r : ReceivedBlock) (h : Cache) (a : StoreAnswer) (g : MasterGroup) (both mismatch : Bool) → a ≡ stored_answer both mismatch → (d e : MasterData) (k : Cache) →
+pub master_receipt_put : (r : ReceivedBlock) (h : Cache) (a : Result StoreAnswer Refusal) (g : MasterGroup) (both mismatch : Bool) → a ≡ Ok (stored_answer both mismatch) → (d e : MasterData) (k : Cache) →
     d ≡ ids_after mismatch r.block_id.seqno h.«data» → e ≡ range_end_moved r.block_id.seqno d → k ≡ with_masters_and_data g e h →
-    stored_in (stored_answer both mismatch) k ≡ master_receipt_stored r a g h
+    stored_in a k ≡ master_receipt_stored r a g h
 master_receipt_put r h a g both mismatch is_stored d e k is_d is_e is_k = rw (is_stored, is_k, is_e, is_d)
 
 module _ (r : ReceivedBlock) (h : Cache) (s : ShardIdent) (its_shard : s ≡ id_shard r.block_id) (x : ShardHeld) (its_held : x ≡ shard_held s h.shard_count h.shards) where
@@ -54,7 +55,7 @@ module _ (r : ReceivedBlock) (h : Cache) (s : ShardIdent) (its_shard : s ≡ id_
       ap (λ (y : ShardHeld). shard_receipt_in r y h) its_held
       ∙ ap (λ (z : ShardIdent). shard_receipt_in r (shard_held z h.shard_count h.shards) h) its_shard
 
-  pub shard_receipt_full : x.room ≡ false → nothing_stored (refused_answer 8) h ≡ store_shard_receipt r h
+  pub shard_receipt_full : x.room ≡ false → nothing_stored (Err NoRoom) h ≡ store_shard_receipt r h
   shard_receipt_full t = (rw t) ∙ held_is
 
   pub shard_receipt_is : x.room ≡ true → (q : GroupStore) → q ≡ store_received_block h.zerostate_mc_seqno r x.group →
@@ -62,17 +63,17 @@ module _ (r : ReceivedBlock) (h : Cache) (s : ShardIdent) (its_shard : s ≡ id_
   shard_receipt_is t q e =
       ap₂ (λ (y : GroupStore) (z : ShardIdent). shard_receipt_stored r y.answer (record { shard = z; group = y.group }) h) e its_shard ∙ (rw t) ∙ held_is
 
-pub shard_receipt_put : (r : ReceivedBlock) (h : Cache) (a : StoreAnswer) (g : ShardGroup) (both mismatch : Bool) → a ≡ stored_answer both mismatch → (d : MasterData) (k : Cache) →
-    d ≡ ids_after mismatch r.ref_block_id.seqno h.«data» → k ≡ with_shard_group g d h → stored_in (stored_answer both mismatch) k ≡ shard_receipt_stored r a g h
+pub shard_receipt_put : (r : ReceivedBlock) (h : Cache) (a : Result StoreAnswer Refusal) (g : ShardGroup) (both mismatch : Bool) → a ≡ Ok (stored_answer both mismatch) → (d : MasterData) (k : Cache) →
+    d ≡ ids_after mismatch r.ref_block_id.seqno h.«data» → k ≡ with_shard_group g d h → stored_in a k ≡ shard_receipt_stored r a g h
 shard_receipt_put r h a g both mismatch is_stored d k is_d is_k = rw (is_stored, is_k, is_d)
 
 module _ (r : ReceivedBlock) (h : Cache) where
-  pub receipt_before : r.ref_block_id.seqno < h.zerostate_mc_seqno → nothing_stored (refused_answer 5) h ≡ store_receipt r h
+  pub receipt_before : r.ref_block_id.seqno < h.zerostate_mc_seqno → nothing_stored (Err BeforeZerostate) h ≡ store_receipt r h
   unfolding store_receipt
   receipt_before l = rw (lt-leb h.zerostate_mc_seqno r.ref_block_id.seqno l)
 
   module _ (l : h.zerostate_mc_seqno ≤ r.ref_block_id.seqno) where
-    pub receipt_other : is_masterchain (id_shard r.block_id) ≡ true → same_id r.block_id r.ref_block_id ≡ false → nothing_stored (refused_answer 6) h ≡ store_receipt r h
+    pub receipt_other : is_masterchain (id_shard r.block_id) ≡ true → same_id r.block_id r.ref_block_id ≡ false → nothing_stored (Err ForeignReference) h ≡ store_receipt r h
     unfolding store_receipt
     receipt_other t u = rw (le-leb h.zerostate_mc_seqno r.ref_block_id.seqno l, t, u)
 
@@ -86,26 +87,26 @@ module _ (r : ReceivedBlock) (h : Cache) where
 
 -- ===== Synced or refused =====
 
-module _ (h : Cache) (a : StoreAnswer) (t : (both mismatch : Bool) → a ≡ stored_answer both mismatch → ⊥) where
+module _ (h : Cache) (a : Result StoreAnswer Refusal) (t : (both mismatch : Bool) → a ≡ Ok (stored_answer both mismatch) → ⊥) where
   pub master_receipt_unstored : (r : ReceivedBlock) (g : MasterGroup) → nothing_stored a h ≡ master_receipt_stored r a g h
-  master_receipt_unstored r g = unstored (λ (x : StoreAnswer). master_receipt_stored r x g h) h refl (λ n. refl) a t
+  master_receipt_unstored r g = unstored (λ (x : Result StoreAnswer Refusal). master_receipt_stored r x g h) h refl (λ n. refl) a t
 
   pub shard_receipt_unstored : (r : ReceivedBlock) (g : ShardGroup) → nothing_stored a h ≡ shard_receipt_stored r a g h
-  shard_receipt_unstored r g = unstored (λ (x : StoreAnswer). shard_receipt_stored r x g h) h refl (λ n. refl) a t
+  shard_receipt_unstored r g = unstored (λ (x : Result StoreAnswer Refusal). shard_receipt_stored r x g h) h refl (λ n. refl) a t
 
 -- ===== nothing is left free =====
 
-master_zeroed : (r : ReceivedBlock) (a : StoreAnswer) (g : MasterGroup) (h : Cache) → Zeroed (master_receipt_stored r a g h)
-master_zeroed r (stored_answer both mismatch) g h =
+master_zeroed : (r : ReceivedBlock) (a : Result StoreAnswer Refusal) (g : MasterGroup) (h : Cache) → Zeroed (master_receipt_stored r a g h)
+master_zeroed r (Ok (stored_answer both mismatch)) g h =
     stored_zeroed both mismatch (with_masters_and_data g (range_end_moved r.block_id.seqno (ids_after mismatch r.block_id.seqno h.«data»)) h)
-master_zeroed r synced_answer g h = refl
-master_zeroed r (refused_answer n) g h = refl
+master_zeroed r (Ok synced_answer) g h = refl
+master_zeroed r (Err n) g h = refl
 
-shard_zeroed : (r : ReceivedBlock) (a : StoreAnswer) (g : ShardGroup) (h : Cache) → Zeroed (shard_receipt_stored r a g h)
-shard_zeroed r (stored_answer both mismatch) g h =
+shard_zeroed : (r : ReceivedBlock) (a : Result StoreAnswer Refusal) (g : ShardGroup) (h : Cache) → Zeroed (shard_receipt_stored r a g h)
+shard_zeroed r (Ok (stored_answer both mismatch)) g h =
     stored_zeroed both mismatch (with_shard_group g (ids_after mismatch r.ref_block_id.seqno h.«data») h)
-shard_zeroed r synced_answer g h = refl
-shard_zeroed r (refused_answer n) g h = refl
+shard_zeroed r (Ok synced_answer) g h = refl
+shard_zeroed r (Err n) g h = refl
 
 pub receipt_zeroed : (r : ReceivedBlock) (h : Cache) → Zeroed (store_receipt r h)
 unfolding store_receipt store_master_receipt store_shard_receipt
@@ -116,26 +117,26 @@ receipt_zeroed r h =
     let q = store_received_master h.zerostate_mc_seqno r h.masters in
     pick_zeroed (leb h.zerostate_mc_seqno r.ref_block_id.seqno) _ _
     (pick_zeroed (is_masterchain s) _ _
-    (pick_zeroed (same_id r.block_id r.ref_block_id) _ _ (master_zeroed r q.answer q.masters h) (nothing_zeroed (refused_answer 6) h))
-    (pick_zeroed x.room _ _ (shard_zeroed r y.answer (record { shard = s; group = y.group }) h) (nothing_zeroed (refused_answer 8) h)))
-    (nothing_zeroed (refused_answer 5) h)
+    (pick_zeroed (same_id r.block_id r.ref_block_id) _ _ (master_zeroed r q.answer q.masters h) (nothing_zeroed (Err ForeignReference) h))
+    (pick_zeroed x.room _ _ (shard_zeroed r y.answer (record { shard = s; group = y.group }) h) (nothing_zeroed (Err NoRoom) h)))
+    (nothing_zeroed (Err BeforeZerostate) h)
 
 -- ===== on a packed cache =====
 
 -- the questions after the record's own
 abbrev pub receipt_rest : ReceivedBlock → Model → List Question
 receipt_rest r m =
-    ask 5 (not_before_zerostate r m) ∷ ask 6 (own_reference r)
-    ∷ ask 7 (is_synced r.block_id m || vacant_or (λ (e : Entry). not (is_received e)) (entry_for r.block_id m))
-    ∷ ask 8 (is_synced r.block_id m || has_room r.block_id m) ∷ []
+    ask BeforeZerostate (not_before_zerostate r m) ∷ ask ForeignReference (own_reference r)
+    ∷ ask AlreadyStored (is_synced r.block_id m || vacant_or (λ (e : Entry). not (is_received e)) (entry_for r.block_id m))
+    ∷ ask NoRoom (is_synced r.block_id m || has_room r.block_id m) ∷ []
 
 -- on mismatch ids go
-ids_left : (mismatch : Bool) (s : ℕ) (m : Model) → ids_after mismatch s (pack m).«data» ≡ (pack (with_ids_and_range (pick mismatch (ids_below s m.ids) m.ids) m.range m)).«data»
+ids_left : (mismatch : Bool) (s : ℕ) (m : Model) → ids_after mismatch s (pack m).«data» ≡ (pack (with_ids_and_range (cond mismatch (ids_below s m.ids) m.ids) m.range m)).«data»
 ids_left true s m = drop_ids_from_packed s m
 ids_left false s m = refl
 
 end_left : (s : ℕ) (m : Model) → range_end_moved s (pack m).«data» ≡ (pack (with_ids_and_range m.ids (moved_end s m.range) m)).«data»
-end_left s m = ap (λ (x : AppliedRange). with_range x (pack m).«data») (move_end_packed s m)
+end_left s m = ap (λ (x : Option AppliedRange). with_range x (pack m).«data») (move_end_packed s m)
 
 module _ (r : ReceivedBlock) (m : Model) (ok : sound_model m ≡ true) where
   abbrev i : BlockId
@@ -147,70 +148,70 @@ module _ (r : ReceivedBlock) (m : Model) (ok : sound_model m ≡ true) where
   abbrev its_entry : Option Entry
   its_entry = entry_for i m
 
-  abbrev by_rule : Option ℕ → HeldOutcome
+  abbrev by_rule : Option Refusal → HeldOutcome
   by_rule q = pack_outcome (answered q m (unlent (store_received r)))
 
   -- what the rule leaves where it is neither Synced nor refused
   abbrev rule_leaves : Stored → HeldOutcome
   rule_leaves x = store_leaves x.both x.mismatch (received_data r x.mismatch (store_and_refresh i x.change m))
 
-  abbrev by_mark : Bool → Option ℕ → Stored → HeldOutcome
-  by_mark known q x = pick known (record { cache = pack m; answer = synced; slice = [] }) (pick (present q) (by_rule q) (rule_leaves x))
+  abbrev by_mark : Bool → Option Refusal → Stored → HeldOutcome
+  by_mark known q x = cond known (record { cache = pack m; answer = synced; slice = [] }) (cond (is_some q) (by_rule q) (rule_leaves x))
 
   abbrev made_of : Stored
   made_of = store_received_at m.zerostate r its_entry
 
   -- the rule goes by the mark
-  by_effect : (known : Bool) → pack_outcome (outcome_of (pick known (plain synced m) (received_stored r made_of m)) []) ≡ by_mark known none made_of
+  by_effect : (known : Bool) → pack_outcome (outcome_of (cond known (plain synced m) (received_stored r made_of m)) []) ≡ by_mark known None made_of
   by_effect true = refl
   by_effect false = refl
 
-  rule_by_mark : by_rule none ≡ by_mark (is_synced i m) none made_of
+  rule_by_mark : by_rule None ≡ by_mark (is_synced i m) None made_of
   unfolding effect
   rule_by_mark = by_effect (is_synced i m)
 
-  decided : (q : Option ℕ) → by_mark (is_synced i m) q made_of ≡ by_rule (pick (is_synced i m) none q)
+  decided : (q : Option Refusal) → by_mark (is_synced i m) q made_of ≡ by_rule (cond (is_synced i m) None q)
   decided q =
       on (is_synced i m)
-      (λ t. ap (λ (b : Bool). by_mark b q made_of) t ∙ sym (rule_by_mark ∙ ap (λ (b : Bool). by_mark b none made_of) t) ∙ ap (λ (b : Bool). by_rule (pick b none q)) (sym t))
-      (λ t. ap (λ (b : Bool). by_mark b q made_of) t ∙ unmarked q t ∙ ap (λ (b : Bool). by_rule (pick b none q)) (sym t))
+      (λ t. ap (λ (b : Bool). by_mark b q made_of) t ∙ sym (rule_by_mark ∙ ap (λ (b : Bool). by_mark b None made_of) t) ∙ ap (λ (b : Bool). by_rule (cond b None q)) (sym t))
+      (λ t. ap (λ (b : Bool). by_mark b q made_of) t ∙ unmarked q t ∙ ap (λ (b : Bool). by_rule (cond b None q)) (sym t))
     where
-      unmarked : (q : Option ℕ) → is_synced i m ≡ false → by_mark false q made_of ≡ by_rule q
-      unmarked none t = sym (rule_by_mark ∙ ap (λ (b : Bool). by_mark b none made_of) t)
-      unmarked (some k) t = refl
+      unmarked : (q : Option Refusal) → is_synced i m ≡ false → by_mark false q made_of ≡ by_rule q
+      unmarked None t = sym (rule_by_mark ∙ ap (λ (b : Bool). by_mark b None made_of) t)
+      unmarked (Some k) t = refl
 
   -- 7 and 8 are those of the group, where there is one or can be
   rest_asked : not_before_zerostate r m ≡ true → own_reference r ≡ true →
-      is_masterchain shard_of || (present (find_shard shard_of m.shards) || ltb (length m.shards) 8) ≡ true →
-      pick (is_synced i m) none (first_no (received_place_questions its_entry (model_room (group_for shard_of m)))) ≡ first_no (receipt_rest r m)
+      is_masterchain shard_of || (is_some (find_shard shard_of m.shards) || ltb (length m.shards) 8) ≡ true →
+      cond (is_synced i m) None (first_no (received_place_questions its_entry (model_room (group_for shard_of m)))) ≡ first_no (receipt_rest r m)
   rest_asked t u h =
       rw (t, u)
-      (ap (λ (b : Bool). pick (is_synced i m) none (first_no (ask 7 (vacant_or (λ (e : Entry). not (is_received e)) its_entry) ∷ ask 8 b ∷ []))) (sym (has_room_is i m h))
+      (ap (λ (b : Bool). cond (is_synced i m) None (first_no (ask AlreadyStored (vacant_or (λ (e : Entry). not (is_received e)) its_entry) ∷ ask NoRoom b ∷ []))) (sym (has_room_is i m h))
       ∙ on (is_synced i m) (λ v. rw v) (λ v. rw v))
 
   -- ===== a master =====
 
   module _ (side : is_masterchain shard_of ≡ true) where
     master_stored : (both mismatch : Bool) (x : Option Entry) →
-        store_outcome (master_receipt_stored r (stored_answer both mismatch) (pack_master_group (refresh i.seqno (with_change x m.masters))) (pack m))
+        store_outcome (master_receipt_stored r (Ok (stored_answer both mismatch)) (pack_master_group (refresh i.seqno (with_change x m.masters))) (pack m))
         ≡ rule_leaves (record { change = x; both = both; mismatch = mismatch })
     master_stored both mismatch x =
-        let ids = pick mismatch (ids_below i.seqno m.ids) m.ids in
+        let ids = cond mismatch (ids_below i.seqno m.ids) m.ids in
         let g = refresh i.seqno (with_change x m.masters) in
         let d = ap (range_end_moved i.seqno) (ids_left mismatch i.seqno m) ∙ end_left i.seqno (with_ids_and_range ids m.range m) in
         rw side
-        (ap (λ (e : MasterData). store_outcome (stored_in (stored_answer both mismatch) (with_masters_and_data (pack_master_group g) e (pack m)))) d
+        (ap (λ (e : MasterData). store_outcome (stored_in (Ok (stored_answer both mismatch)) (with_masters_and_data (pack_master_group g) e (pack m)))) d
         ∙ stored_packed both mismatch (with_ids_and_range ids (moved_end i.seqno m.range) (with_masters g m)))
 
-    master_answered : (g : GroupModel) → m.masters ≡ g → (known : Bool) (q : Option ℕ) (x : Stored) →
-        (let s = pick known (record { answer = synced_answer; group = g }) (outcome q x (refresh i.seqno (with_change x.change g)) g) in
+    master_answered : (g : GroupModel) → m.masters ≡ g → (known : Bool) (q : Option Refusal) (x : Stored) →
+        (let s = cond known (record { answer = Ok synced_answer; group = g }) (outcome q x (refresh i.seqno (with_change x.change g)) g) in
         store_outcome (master_receipt_stored r s.answer (pack_master_group s.group) (pack m)))
         ≡ by_mark known q x
     master_answered g e true q x = refl
-    master_answered g e false none x =
-        subst (λ (y : GroupModel). store_outcome (master_receipt_stored r (stored_answer x.both x.mismatch) (pack_master_group (refresh i.seqno (with_change x.change y))) (pack m)) ≡ rule_leaves x)
+    master_answered g e false None x =
+        subst (λ (y : GroupModel). store_outcome (master_receipt_stored r (Ok (stored_answer x.both x.mismatch)) (pack_master_group (refresh i.seqno (with_change x.change y))) (pack m)) ≡ rule_leaves x)
         e (master_stored x.both x.mismatch x.change)
-    master_answered g e false (some k) x = refl
+    master_answered g e false (Some k) x = refl
 
     master_packed : not_before_zerostate r m ≡ true → own_reference r ≡ true → store_outcome (store_master_receipt r (pack m)) ≡ by_rule (first_no (receipt_rest r m))
     master_packed t u =
@@ -233,36 +234,36 @@ module _ (r : ReceivedBlock) (m : Model) (ok : sound_model m ≡ true) where
     its_group = group_of shard_of m.shards
 
     abbrev shard_room : Bool
-    shard_room = present (find_shard shard_of m.shards) || ltb (length m.shards) 8
+    shard_room = is_some (find_shard shard_of m.shards) || ltb (length m.shards) 8
 
     -- for a new shard there are 8 groups
-    shard_refused : not_before_zerostate r m ≡ true → shard_room ≡ false → first_no (receipt_rest r m) ≡ some 8
+    shard_refused : not_before_zerostate r m ≡ true → shard_room ≡ false → first_no (receipt_rest r m) ≡ Some NoRoom
     shard_refused u t =
         let n = neither (find_shard shard_of m.shards) (ltb (length m.shards) 8) t in
         rw (u, side, n.0, n.1)
 
     shard_stored : shard_room ≡ true → (both mismatch : Bool) (x : Option Entry) →
-        store_outcome (shard_receipt_stored r (stored_answer both mismatch) (record { shard = shard_of; group = pack_group (refresh i.seqno (with_change x its_group)) }) (pack m))
+        store_outcome (shard_receipt_stored r (Ok (stored_answer both mismatch)) (record { shard = shard_of; group = pack_group (refresh i.seqno (with_change x its_group)) }) (pack m))
         ≡ rule_leaves (record { change = x; both = both; mismatch = mismatch })
     shard_stored t both mismatch x =
-        let ids = pick mismatch (ids_below r.ref_block_id.seqno m.ids) m.ids in
+        let ids = cond mismatch (ids_below r.ref_block_id.seqno m.ids) m.ids in
         let g = refresh i.seqno (with_change x its_group) in
         rw side
-        (ap (λ (d : MasterData). store_outcome (stored_in (stored_answer both mismatch) (with_shard_group (record { shard = shard_of; group = pack_group g }) d (pack m))))
+        (ap (λ (d : MasterData). store_outcome (stored_in (Ok (stored_answer both mismatch)) (with_shard_group (record { shard = shard_of; group = pack_group g }) d (pack m))))
         (ids_left mismatch r.ref_block_id.seqno m)
-        ∙ ap (λ (k : Cache). store_outcome (stored_in (stored_answer both mismatch) k)) (with_shard_packed shard_of m ok g ids m.range side t)
+        ∙ ap (λ (k : Cache). store_outcome (stored_in (Ok (stored_answer both mismatch)) k)) (with_shard_packed shard_of m ok g ids m.range side t)
         ∙ stored_packed both mismatch (with_ids_and_range ids m.range (with_shards (set_group shard_of g m.shards) m)))
 
-    shard_answered : shard_room ≡ true → (g : GroupModel) → its_group ≡ g → (known : Bool) (q : Option ℕ) (x : Stored) →
-        (let s = pick known (record { answer = synced_answer; group = g }) (outcome q x (refresh i.seqno (with_change x.change g)) g) in
+    shard_answered : shard_room ≡ true → (g : GroupModel) → its_group ≡ g → (known : Bool) (q : Option Refusal) (x : Stored) →
+        (let s = cond known (record { answer = Ok synced_answer; group = g }) (outcome q x (refresh i.seqno (with_change x.change g)) g) in
         store_outcome (shard_receipt_stored r s.answer (record { shard = shard_of; group = pack_group s.group }) (pack m)))
         ≡ by_mark known q x
     shard_answered t g e true q x = refl
-    shard_answered t g e false none x =
-        subst (λ (y : GroupModel). store_outcome (shard_receipt_stored r (stored_answer x.both x.mismatch)
+    shard_answered t g e false None x =
+        subst (λ (y : GroupModel). store_outcome (shard_receipt_stored r (Ok (stored_answer x.both x.mismatch))
         (record { shard = shard_of; group = pack_group (refresh i.seqno (with_change x.change y)) }) (pack m)) ≡ rule_leaves x)
         e (shard_stored t x.both x.mismatch x.change)
-    shard_answered t g e false (some k) x = refl
+    shard_answered t g e false (Some k) x = refl
 
     shard_packed : not_before_zerostate r m ≡ true → store_outcome (store_shard_receipt r (pack m)) ≡ by_rule (first_no (receipt_rest r m))
     shard_packed u =

@@ -1,21 +1,22 @@
 -- Pop and sync extraction as the code answers them are the rules' calls: answer, cache and slice, refusals too; and what is known of the blocks.
 -- Assumes nothing.
+use Rattle.block_records.specs.declared.questions.Refusal.{Refusal}
+use Rattle.block_records.specs.declared.range.AppliedRange.{AppliedRange}
+use Rattle.block_records.specs.declared.questions.Refusal.TheVariants.{NothingApplied, SeqnoLimit, SliceTooShort, Unsound}
+use Rattle.std.specs.List.{find}
+use Rattle.std.specs.Prelude.{Option, option_map, None, Some, map, cond, is_some, Err, Ok, Result}
 use Rattle.std.proofs.Common.{◌≡◌, ℕ, zero, suc, ◌+◌, ◌<◌, ◌≤◌, Bool, true, false, not, eqb, List, [], ◌∷◌, ◌++◌, length, take, drop, sym, refl, ap, ◌∙◌, subst, subst₂, arith, le-leb}
-use mathlib.Core.Option.{Option, map, none, some}
 use borrow.Author.Tests.{lt-leb}
 use Rattle.block_records.specs.declared.block_id.BlockId.{BlockId}
 use Rattle.block_records.specs.declared.entry.BlockCacheEntry.{BlockCacheEntry}
 use Rattle.block_records.specs.declared.entry.MasterBlock.{MasterBlock}
-use Rattle.block_records.specs.declared.place.Place.{Place}
-use Rattle.block_records.specs.declared.place.Place.TheVariants.{At as place_at, Vacant as vacant_at}
 use Rattle.blocks_cache.specs.declared.cache.Cache.{Cache}
 use Rattle.blocks_cache.specs.declared.extraction.ExtractAnswer.{ExtractAnswer}
-use Rattle.blocks_cache.specs.declared.extraction.ExtractAnswer.TheVariants.{AlreadyExtracted as already_answer, Extracted as extracted_answer, Popped as popped_extract, Refused as refused_extract}
+use Rattle.blocks_cache.specs.declared.extraction.ExtractAnswer.TheVariants.{AlreadyExtracted as already_answer, Extracted as extracted_answer, Popped as popped_extract}
 use Rattle.blocks_cache.specs.declared.extraction.ExtractRequest.{ExtractRequest}
 use Rattle.blocks_cache.specs.declared.extraction.ExtractRequest.TheVariants.{Pop as pop_request, Sync as sync_request}
 use Rattle.blocks_cache.specs.declared.extraction.ExtractWithBlocks.{ExtractWithBlocks}
 use Rattle.blocks_cache.specs.declared.extraction.Extraction.{Extraction}
-use Rattle.blocks_cache.specs.declared.master_data.AppliedRange.{AppliedRange}
 use Rattle.blocks_group.specs.declared.group.MasterAt.{MasterAt}
 use Rattle.blocks_group.specs.declared.group.MasterGroup.{MasterGroup}
 use Rattle.block_records.proofs.layout.EntryLaws.{view_pack_entry}
@@ -25,7 +26,7 @@ use Rattle.block_records.specs.layout.Entry.{pack_entry, pack_master}
 use Rattle.block_records.specs.layout.Zeros.{zero_entry}
 use Rattle.block_records.specs.rules.BlockId.{is_masterchain, key}
 use Rattle.block_records.specs.rules.Entry.{Entry, is_applied}
-use Rattle.block_records.specs.rules.Lists.{each, find, padded, pick, present, rising}
+use Rattle.block_records.specs.rules.Lists.{padded, rising}
 use Rattle.block_records.specs.rules.Questions.{ask, first_no, seqno_fits}
 use Rattle.blocks_cache.proofs.arrays.MasterDataLaws.{drop_ids_below_packed, move_start_packed}
 use Rattle.blocks_cache.proofs.layout.CacheLaws.{sound_cache_packed}
@@ -33,7 +34,7 @@ use Rattle.blocks_cache.proofs.layout.CallLaws.{no_leaves}
 use Rattle.blocks_cache.specs.arrays.Extraction.{pack_extraction, view_master}
 use Rattle.blocks_cache.specs.arrays.LentSlices.{filled_at}
 use Rattle.blocks_cache.specs.arrays.Subgraphs.{ExtractsWithBlocks, PacksEffect, extract_call, extract_on, extract_outcome, hand_out, joined_blocks, move_applied_start, no_extract, request_seqno, some_id, with_master}
-use Rattle.blocks_cache.specs.layout.Cache.{answered_on, call_on, pack, pack_outcome, pack_range, pack_shard, questions_on, sound_cache, view, view_range, zero_shard_group}
+use Rattle.blocks_cache.specs.layout.Cache.{answered_on, call_on, pack, pack_outcome, pack_shard, questions_on, sound_cache, view, zero_shard_group}
 use Rattle.blocks_group.proofs.arrays.GroupLaws.{master_at_packed, remove_master_packed}
 use Rattle.blocks_group.proofs.arrays.QueryLaws.{applied_above_packed, first_applied_packed}
 use Rattle.blocks_group.proofs.arrays.StoreLaws.{refresh_masters_packed}
@@ -49,24 +50,24 @@ use Rattle.cache_rules.proofs.SoundLaws.{parts}
 use Rattle.cache_rules.specs.Calls.{Effect, Extract, extracted, popped, refused, sync}
 use Rattle.cache_rules.specs.Effects.{at_front, effect, extract_of, extracted_model, masters_without, outcome_of, pop_entry, sync_entry}
 use Rattle.cache_rules.specs.Extraction.{Walk, extraction_of, first_walk, previous_cached, starting_ids, take_found, take_id, take_one, take_times}
-use Rattle.cache_rules.specs.Model.{Model, Range, applied_above, block_under, first_applied, is_last, moved_start, refresh_shard, remove_block}
+use Rattle.cache_rules.specs.Model.{Model, applied_above, block_under, first_applied, is_last, moved_start, refresh_shard, remove_block}
 use Rattle.cache_rules.specs.Refusals.{further}
 
 -- ===== what was found =====
 
-map_none : (o : Option Entry) → map pack_master o ≡ none → o ≡ none
-map_none none e = refl
-map_none (some M) e = some_not_none refl e
+map_none : (o : Option Entry) → option_map pack_master o ≡ None → o ≡ None
+map_none None e = refl
+map_none (Some M) e = some_not_none refl e
 
-map_some : (o : Option Entry) (b : MasterBlock) → map pack_master o ≡ some b → (M : Entry) × (o ≡ some M) × (b ≡ pack_master M)
-map_some none b e = some_not_none e refl
-map_some (some M) b e = (M, refl, cc)
+map_some : (o : Option Entry) (b : MasterBlock) → option_map pack_master o ≡ Some b → (M : Entry) × (o ≡ Some M) × (b ≡ pack_master M)
+map_some None b e = some_not_none e refl
+map_some (Some M) b e = (M, refl, cc)
 
 -- ===== the number of shard groups stays =====
 
 found_count : (n : ℕ) (i : BlockId) (rest : List BlockId) (w : Walk) (o : Option Entry) → length (take_found n i rest w o).shards ≡ length w.shards
-found_count n i rest w none = refl
-found_count n i rest w (some e) =
+found_count n i rest w None = refl
+found_count n i rest w (Some e) =
     let a : length (remove_block (key i) w.shards) ≡ length w.shards = length_each _ w.shards in
     let b : length (refresh_shard (key i) (remove_block (key i) w.shards)) ≡ length (remove_block (key i) w.shards) = length_each _ (remove_block (key i) w.shards) in
     on (eqb e.reference n) (λ t. rw t (b ∙ a)) (λ t. rw t a)
@@ -85,49 +86,49 @@ groups_stay M m = times_count (length (starting_ids m.zerostate M) + previous_ca
 -- ===== what is handed out of a packed cache =====
 
 -- M, its subgraph's blocks with zeros after them, and the model that is left
-abbrev an_extract : ExtractAnswer → Entry → Walk → Model → ExtractWithBlocks
+abbrev an_extract : Result ExtractAnswer Refusal → Entry → Walk → Model → ExtractWithBlocks
 an_extract a M w m =
     record {
       extract = record { answer = a; master = pack_master M; joined = length w.joined; taken = w.taken; cache = pack m };
-      blocks = padded 128 zero_entry (each pack_entry w.joined);
+      blocks = padded 128 zero_entry (map pack_entry w.joined);
     }
 
 handed_as : (M : Entry) (w : Walk) → ◌≡◌ {A = Extract} (record { block = view_master (pack_master M); joined = length w.joined; taken = w.taken }) (extract_of M w)
 handed_as M w = let e = view_pack_entry M in λ i. record { block = e i; joined = length w.joined; taken = w.taken }
 
-whole_master : (a : ExtractAnswer) (M : Entry) (w : Walk) (m : Model) → (an_extract a M w m).extract ≡ with_master (pack_master (view_master (pack_master M))) (an_extract a M w m).extract
+whole_master : (a : Result ExtractAnswer Refusal) (M : Entry) (w : Walk) (m : Model) → (an_extract a M w m).extract ≡ with_master (pack_master (view_master (pack_master M))) (an_extract a M w m).extract
 whole_master a M w m = ap (λ (e : Entry). with_master (pack_master e) (an_extract a M w m).extract) (sym (view_pack_entry M))
 
 -- of a packed cache: nothing, with 11 or AlreadyExtracted; and M with its subgraph
-pop_nothing : (m : Model) → PacksEffect (pop_entry none m) (no_extract (refused_extract 11) (pack m))
+pop_nothing : (m : Model) → PacksEffect (pop_entry None m) (no_extract (Err NothingApplied) (pack m))
 pop_nothing m = record { cache = refl; answer = refl; joined = refl; blocks = refl; zeroed = refl }
 
 pop_hands : (M : Entry) (m : Model) →
-    PacksEffect (pop_entry (some M) m) (an_extract (popped_extract (is_last M.id.seqno m)) M (extraction_of M m) (pop_entry (some M) m).model)
+    PacksEffect (pop_entry (Some M) m) (an_extract (Ok (popped_extract (is_last M.id.seqno m))) M (extraction_of M m) (pop_entry (Some M) m).model)
 pop_hands M m =
     record {
       cache = refl;
       answer = ap (λ (x : Extract). popped x (is_last M.id.seqno m)) (handed_as M (extraction_of M m));
       joined = refl;
       blocks = refl;
-      zeroed = whole_master (popped_extract (is_last M.id.seqno m)) M (extraction_of M m) (pop_entry (some M) m).model;
+      zeroed = whole_master (Ok (popped_extract (is_last M.id.seqno m))) M (extraction_of M m) (pop_entry (Some M) m).model;
     }
 
-sync_nothing : (m : Model) → PacksEffect (sync_entry none m) (no_extract already_answer (pack m))
+sync_nothing : (m : Model) → PacksEffect (sync_entry None m) (no_extract (Ok already_answer) (pack m))
 sync_nothing m = record { cache = refl; answer = refl; joined = refl; blocks = refl; zeroed = refl }
 
-sync_hands : (M : Entry) (m : Model) → PacksEffect (sync_entry (some M) m) (an_extract extracted_answer M (extraction_of M m) (sync_entry (some M) m).model)
+sync_hands : (M : Entry) (m : Model) → PacksEffect (sync_entry (Some M) m) (an_extract (Ok extracted_answer) M (extraction_of M m) (sync_entry (Some M) m).model)
 sync_hands M m =
     record {
       cache = refl;
       answer = ap extracted (handed_as M (extraction_of M m));
       joined = refl;
       blocks = refl;
-      zeroed = whole_master extracted_answer M (extraction_of M m) (sync_entry (some M) m).model;
+      zeroed = whole_master (Ok extracted_answer) M (extraction_of M m) (sync_entry (Some M) m).model;
     }
 
-module _ (m : Model) (M : Entry) (a : ExtractAnswer) (g : GroupModel) (r : Option Range) where
-  hand_out_packed : hand_out (pack m) a (pack_master M) (pack_master_group g) (pack_range r) (pack_extraction (extraction_of M m)) ≡ an_extract a M (extraction_of M m) (extracted_model M (extraction_of M m) g r m)
+module _ (m : Model) (M : Entry) (a : Result ExtractAnswer Refusal) (g : GroupModel) (r : Option AppliedRange) where
+  hand_out_packed : hand_out (pack m) a (pack_master M) (pack_master_group g) (r) (pack_extraction (extraction_of M m)) ≡ an_extract a M (extraction_of M m) (extracted_model M (extraction_of M m) g r m)
   unfolding pack_extraction
   hand_out_packed =
       let w = extraction_of M m in
@@ -145,12 +146,12 @@ module _ (m : Model) (M : Entry) (a : ExtractAnswer) (g : GroupModel) (r : Optio
                   record {
                     zerostate_mc_seqno = m.zerostate;
                     masters = pack_master_group g;
-                    «data» = record { ids = (d i).ids; count = (d i).count; range = pack_range r };
-                    shards = padded 8 zero_shard_group (each pack_shard w.shards);
+                    «data» = record { ids = (d i).ids; range = r };
+                    shards = padded 8 zero_shard_group (map pack_shard w.shards);
                     shard_count = n i;
                   };
             };
-        blocks = padded 128 zero_entry (each pack_entry w.joined);
+        blocks = padded 128 zero_entry (map pack_entry w.joined);
       }
 
 module _ (c : Cache) (ok : sound_cache c ≡ true) where
@@ -161,12 +162,12 @@ module _ (c : Cache) (ok : sound_cache c ≡ true) where
   packed = (sound_cache_packed c ok).0
 
   -- M as it was found
-  module _ (o : Option Entry) (a : MasterAt) (found : answered_master a ≡ map pack_master o) where
-    nothing_found : (k : ℕ) → a.found ≡ vacant_at k → o ≡ none
-    nothing_found k v = map_none o (sym found ∙ ap (λ (f : Place). when_found f a.block) v)
+  module _ (o : Option Entry) (a : MasterAt) (found : answered_master a ≡ option_map pack_master o) where
+    nothing_found : (k : ℕ) → a.found ≡ Err k → o ≡ None
+    nothing_found k v = map_none o (sym found ∙ ap (λ (f : Result ℕ ℕ). when_found f a.block) v)
 
-    one_found : (k : ℕ) → a.found ≡ place_at k → (M : Entry) × (o ≡ some M) × (a.block ≡ pack_master M)
-    one_found k v = map_some o a.block (sym found ∙ ap (λ (f : Place). when_found f a.block) v)
+    one_found : (k : ℕ) → a.found ≡ Ok k → (M : Entry) × (o ≡ Some M) × (a.block ≡ pack_master M)
+    one_found k v = map_some o a.block (sym found ∙ ap (λ (f : Result ℕ ℕ). when_found f a.block) v)
 
   -- the extraction of M as it was found
   extraction_found : (M : Entry) (b : MasterBlock) (x : Extraction) → b ≡ pack_master M → x ≡ pack_extraction (extraction_of (view_master b) m) → x ≡ pack_extraction (extraction_of M m)
@@ -175,31 +176,31 @@ module _ (c : Cache) (ok : sound_cache c ≡ true) where
   -- ===== pop =====
 
   module _ (f : ℕ) (a : MasterAt) (e : a ≡ first_applied_master f c.masters) where
-    pop_chooses : answered_master a ≡ map pack_master (first_applied f m)
+    pop_chooses : answered_master a ≡ option_map pack_master (first_applied f m)
     pop_chooses = ap answered_master (e ∙ ap (λ (x : Cache). first_applied_master f x.masters) packed) ∙ first_applied_packed f m.masters
 
-    pub pop_none : (k : ℕ) (r : ExtractWithBlocks) → a.found ≡ vacant_at k → r ≡ no_extract (refused_extract 11) c → PacksEffect (pop_entry (first_applied f m) m) r
+    pub pop_none : (k : ℕ) (r : ExtractWithBlocks) → a.found ≡ Err k → r ≡ no_extract (Err NothingApplied) c → PacksEffect (pop_entry (first_applied f m) m) r
     pop_none k r v q =
         subst₂ (λ (o : Option Entry) (p : ExtractWithBlocks). PacksEffect (pop_entry o m) p) (sym (nothing_found (first_applied f m) a pop_chooses k v))
-        (sym (q ∙ ap (no_extract (refused_extract 11)) packed)) (pop_nothing m)
+        (sym (q ∙ ap (no_extract (Err NothingApplied)) packed)) (pop_nothing m)
 
-    pub pop_some : (k : ℕ) (above : Bool) (x : Extraction) (g : MasterGroup) (range : AppliedRange) (r : ExtractWithBlocks) → a.found ≡ place_at k →
+    pub pop_some : (k : ℕ) (above : Bool) (x : Extraction) (g : MasterGroup) (range : Option AppliedRange) (r : ExtractWithBlocks) → a.found ≡ Ok k →
         above ≡ any_applied_above (master_seqno a.block) c.masters.group → x ≡ pack_extraction (extraction_of (view_master a.block) m) →
-        g ≡ remove_master (master_seqno a.block) c.masters → range ≡ pack_range (moved_start (master_seqno a.block) (view_range c.«data».range)) →
-        r ≡ hand_out c (popped_extract (not above)) a.block g range x → PacksEffect (pop_entry (first_applied f m) m) r
+        g ≡ remove_master (master_seqno a.block) c.masters → range ≡ (moved_start (master_seqno a.block) (c.«data».range)) →
+        r ≡ hand_out c (Ok (popped_extract (not above))) a.block g range x → PacksEffect (pop_entry (first_applied f m) m) r
     pop_some k above x g range r v ab xe ge re q =
         let t = one_found (first_applied f m) a pop_chooses k v in
         let M = t.0 in
         let b = t.2 in
-        let ab' : above ≡ present (find (applied_above M.id.seqno) m.masters.entries) =
+        let ab' : above ≡ is_some (find (applied_above M.id.seqno) m.masters.entries) =
         ab ∙ (λ i. any_applied_above (master_seqno (b i)) (packed i).masters.group) ∙ applied_above_packed M.id.seqno m.masters in
         let ge' : g ≡ pack_master_group (masters_without M m) = ge ∙ (λ i. remove_master (master_seqno (b i)) (packed i).masters) ∙ remove_master_packed m.masters M.id.seqno in
-        let re' : range ≡ pack_range (moved_start M.id.seqno m.range) =
-        re ∙ (λ i. pack_range (moved_start (master_seqno (b i)) (view_range (packed i).«data».range))) ∙ move_start_packed M.id.seqno m in
+        let re' : range ≡ (moved_start M.id.seqno m.range) =
+        re ∙ (λ i. (moved_start (master_seqno (b i)) ((packed i).«data».range))) ∙ move_start_packed M.id.seqno m in
         let xe' = extraction_found M a.block x b xe in
         let made =
-        q ∙ (λ i. hand_out (packed i) (popped_extract (not (ab' i))) (b i) (ge' i) (re' i) (xe' i))
-        ∙ hand_out_packed m M (popped_extract (is_last M.id.seqno m)) (masters_without M m) (moved_start M.id.seqno m.range) in
+        q ∙ (λ i. hand_out (packed i) (Ok (popped_extract (not (ab' i)))) (b i) (ge' i) (re' i) (xe' i))
+        ∙ hand_out_packed m M (Ok (popped_extract (is_last M.id.seqno m))) (masters_without M m) (moved_start M.id.seqno m.range) in
         subst₂ (λ (o : Option Entry) (p : ExtractWithBlocks). PacksEffect (pop_entry o m) p) (sym t.1) (sym made) (pop_hands M m)
 
   -- ===== sync extraction =====
@@ -208,17 +209,17 @@ module _ (c : Cache) (ok : sound_cache c ≡ true) where
   masters_rise = (group_parts is_masterchain m.masters (parts m (sound_cache_packed c ok).1).rest.masters).order
 
   module _ (n : ℕ) (a : MasterAt) (e : a ≡ master_at n c.masters) where
-    sync_chooses : answered_master a ≡ map pack_master (at_seqno n m.masters.entries)
+    sync_chooses : answered_master a ≡ option_map pack_master (at_seqno n m.masters.entries)
     sync_chooses = ap answered_master (e ∙ ap (λ (x : Cache). master_at n x.masters) packed) ∙ master_at_packed n m.masters masters_rise
 
-    pub sync_none : (k : ℕ) (r : ExtractWithBlocks) → a.found ≡ vacant_at k → r ≡ no_extract already_answer c → PacksEffect (sync_entry (at_seqno n m.masters.entries) m) r
+    pub sync_none : (k : ℕ) (r : ExtractWithBlocks) → a.found ≡ Err k → r ≡ no_extract (Ok already_answer) c → PacksEffect (sync_entry (at_seqno n m.masters.entries) m) r
     sync_none k r v q =
         subst₂ (λ (o : Option Entry) (p : ExtractWithBlocks). PacksEffect (sync_entry o m) p) (sym (nothing_found (at_seqno n m.masters.entries) a sync_chooses k v))
-        (sym (q ∙ ap (no_extract already_answer) packed)) (sync_nothing m)
+        (sym (q ∙ ap (no_extract (Ok already_answer)) packed)) (sync_nothing m)
 
-    pub sync_some : (k : ℕ) (x : Extraction) (h g : MasterGroup) (range : AppliedRange) (r : ExtractWithBlocks) → a.found ≡ place_at k →
+    pub sync_some : (k : ℕ) (x : Extraction) (h g : MasterGroup) (range : Option AppliedRange) (r : ExtractWithBlocks) → a.found ≡ Ok k →
         x ≡ pack_extraction (extraction_of (view_master a.block) m) → h ≡ remove_master (master_seqno a.block) c.masters → g ≡ refresh_masters (master_seqno a.block) h →
-        range ≡ move_applied_start c.«data».range a.block → r ≡ hand_out c extracted_answer a.block g range x → PacksEffect (sync_entry (at_seqno n m.masters.entries) m) r
+        range ≡ move_applied_start c.«data».range a.block → r ≡ hand_out c (Ok extracted_answer) a.block g range x → PacksEffect (sync_entry (at_seqno n m.masters.entries) m) r
     sync_some k x h g range r v xe he ge re q =
         let t = one_found (at_seqno n m.masters.entries) a sync_chooses k v in
         let M = t.0 in
@@ -226,26 +227,26 @@ module _ (c : Cache) (ok : sound_cache c ≡ true) where
         let s = M.id.seqno in
         let he' : h ≡ pack_master_group (masters_without M m) = he ∙ (λ i. remove_master (master_seqno (b i)) (packed i).masters) ∙ remove_master_packed m.masters s in
         let ge' : g ≡ pack_master_group (refresh s (masters_without M m)) = ge ∙ (λ i. refresh_masters (master_seqno (b i)) (he' i)) ∙ refresh_masters_packed (masters_without M m) s in
-        let moved : pack_range (moved_start s (view_range (pack m).«data».range)) ≡ pack_range (moved_start s m.range) = move_start_packed s m in
-        let re' : range ≡ pack_range (pick (is_applied M) (moved_start s m.range) m.range) =
+        let moved : (moved_start s ((pack m).«data».range)) ≡ (moved_start s m.range) = move_start_packed s m in
+        let re' : range ≡ (cond (is_applied M) (moved_start s m.range) m.range) =
         re ∙ (λ i. move_applied_start (packed i).«data».range (b i)) ∙ on (is_applied M) (λ u. rw u moved) (λ u. rw u) in
         let xe' = extraction_found M a.block x b xe in
         let made =
-        q ∙ (λ i. hand_out (packed i) extracted_answer (b i) (ge' i) (re' i) (xe' i))
-        ∙ hand_out_packed m M extracted_answer (refresh s (masters_without M m)) (pick (is_applied M) (moved_start s m.range) m.range) in
+        q ∙ (λ i. hand_out (packed i) (Ok extracted_answer) (b i) (ge' i) (re' i) (xe' i))
+        ∙ hand_out_packed m M (Ok extracted_answer) (refresh s (masters_without M m)) (cond (is_applied M) (moved_start s m.range) m.range) in
         subst₂ (λ (o : Option Entry) (p : ExtractWithBlocks). PacksEffect (sync_entry o m) p) (sym t.1) (sym made) (sync_hands M m)
 
 -- ===== an effect, with its blocks at the front of a slice =====
 
 module _ (e : Effect) (p : ExtractWithBlocks) (packs : PacksEffect e p) where
-  joined_are : joined_blocks p ≡ each pack_entry e.blocks
+  joined_are : joined_blocks p ≡ map pack_entry e.blocks
   joined_are =
       ap (λ (n : ℕ). take n p.blocks) packs.joined ∙ ap (take (length e.blocks)) packs.blocks ∙ take_padded_each 128 zero_entry pack_entry e.blocks
 
-  filled_front : (lent : List BlockCacheEntry) → filled_at 0 p.extract.joined p.blocks lent ≡ at_front (each pack_entry e.blocks) lent
+  filled_front : (lent : List BlockCacheEntry) → filled_at 0 p.extract.joined p.blocks lent ≡ at_front (map pack_entry e.blocks) lent
   filled_front lent =
       ap (λ (bs : List BlockCacheEntry). bs ++ drop p.extract.joined lent) joined_are
-      ∙ ap (λ (n : ℕ). each pack_entry e.blocks ++ drop n lent) (packs.joined ∙ sym (length_each pack_entry e.blocks))
+      ∙ ap (λ (n : ℕ). map pack_entry e.blocks ++ drop n lent) (packs.joined ∙ sym (length_each pack_entry e.blocks))
 
   packed_outcome : (lent : List BlockCacheEntry) → extract_outcome p.extract (filled_at 0 p.extract.joined p.blocks lent) ≡ pack_outcome (outcome_of e lent)
   packed_outcome lent = let s = filled_front lent in λ i. record { cache = packs.cache i; answer = packs.answer i; slice = s i }
@@ -266,49 +267,49 @@ module _ (e : Effect) (p : ExtractWithBlocks) (packs : PacksEffect e p) where
 
 module _ (c : Cache) (places : ℕ) where
   -- refused, whatever slice of so many places is lent
-  refuses : (q : ExtractRequest) (n : ℕ) → ((lent : List BlockCacheEntry) → length lent ≡ places → first_no (questions_on c (extract_call q lent)) ≡ some n) →
-      ExtractsWithBlocks c q places (no_extract (refused_extract n) c)
+  refuses : (q : ExtractRequest) (n : Refusal) → ((lent : List BlockCacheEntry) → length lent ≡ places → first_no (questions_on c (extract_call q lent)) ≡ Some n) →
+      ExtractsWithBlocks c q places (no_extract (Err n) c)
   refuses q n asked =
       record { outcome = λ lent long. sym (no_leaves c (extract_call q lent) n (asked lent long)); fits = omega arith; few = omega arith; rest = refl; zeroed = refl }
 
-  pub unsound_refused : (q : ExtractRequest) (r : ExtractWithBlocks) → r ≡ no_extract (refused_extract 1) c → sound_cache c ≡ false → ExtractsWithBlocks c q places r
-  unsound_refused q r e h = subst (ExtractsWithBlocks c q places) (sym e) (refuses q 1 (λ lent long. rw h))
+  pub unsound_refused : (q : ExtractRequest) (r : ExtractWithBlocks) → r ≡ no_extract (Err Unsound) c → sound_cache c ≡ false → ExtractsWithBlocks c q places r
+  unsound_refused q r e h = subst (ExtractsWithBlocks c q places) (sym e) (refuses q Unsound (λ lent long. rw h))
 
   module _ (ok : sound_cache c ≡ true) where
-    unfit_asked : (q : ExtractRequest) → seqno_fits (request_seqno q) ≡ false → (lent : List BlockCacheEntry) → first_no (questions_on c (extract_call q lent)) ≡ some 2
+    unfit_asked : (q : ExtractRequest) → seqno_fits (request_seqno q) ≡ false → (lent : List BlockCacheEntry) → first_no (questions_on c (extract_call q lent)) ≡ Some SeqnoLimit
     unfolding further some_id
     unfit_asked (pop_request f) h lent = rw (ok, h)
     unfit_asked (sync_request n) h lent = rw (ok, h)
 
-    pub unfit_refused : (q : ExtractRequest) (r : ExtractWithBlocks) → r ≡ no_extract (refused_extract 2) c → seqno_fits (request_seqno q) ≡ false → ExtractsWithBlocks c q places r
-    unfit_refused q r e h = subst (ExtractsWithBlocks c q places) (sym e) (refuses q 2 (λ lent long. unfit_asked q h lent))
+    pub unfit_refused : (q : ExtractRequest) (r : ExtractWithBlocks) → r ≡ no_extract (Err SeqnoLimit) c → seqno_fits (request_seqno q) ≡ false → ExtractsWithBlocks c q places r
+    unfit_refused q r e h = subst (ExtractsWithBlocks c q places) (sym e) (refuses q SeqnoLimit (λ lent long. unfit_asked q h lent))
 
-    short_asked : (q : ExtractRequest) → seqno_fits (request_seqno q) ≡ true → places < 128 → (lent : List BlockCacheEntry) → length lent ≡ places → first_no (questions_on c (extract_call q lent)) ≡ some 10
+    short_asked : (q : ExtractRequest) → seqno_fits (request_seqno q) ≡ true → places < 128 → (lent : List BlockCacheEntry) → length lent ≡ places → first_no (questions_on c (extract_call q lent)) ≡ Some SliceTooShort
     unfolding further some_id
     short_asked (pop_request f) h l lent long = rw (ok, h, long, lt-leb 128 places l)
     short_asked (sync_request n) h l lent long = rw (ok, h, long, lt-leb 128 places l)
 
-    pub short_refused : (q : ExtractRequest) (r : ExtractWithBlocks) → r ≡ no_extract (refused_extract 10) c → seqno_fits (request_seqno q) ≡ true → places < 128 → ExtractsWithBlocks c q places r
-    short_refused q r e h l = subst (ExtractsWithBlocks c q places) (sym e) (refuses q 10 (short_asked q h l))
+    pub short_refused : (q : ExtractRequest) (r : ExtractWithBlocks) → r ≡ no_extract (Err SliceTooShort) c → seqno_fits (request_seqno q) ≡ true → places < 128 → ExtractsWithBlocks c q places r
+    short_refused q r e h l = subst (ExtractsWithBlocks c q places) (sym e) (refuses q SliceTooShort (short_asked q h l))
 
     few_join : (M : Entry) → length (extraction_of M (view c)).joined ≤ 128
     few_join M = records_suffice (view c) M (sound_cache_packed c ok).1
 
     -- question 11 is asked by the search itself
     pop_asked : (f : ℕ) → seqno_fits f ≡ true → 128 ≤ places → (lent : List BlockCacheEntry) → length lent ≡ places →
-        first_no (questions_on c (extract_call (pop_request f) lent)) ≡ first_no (ask 11 (present (first_applied f (view c))) ∷ [])
+        first_no (questions_on c (extract_call (pop_request f) lent)) ≡ first_no (ask NothingApplied (is_some (first_applied f (view c))) ∷ [])
     unfolding further
     pop_asked f h l lent long = rw (ok, h, long, le-leb 128 places l)
 
     pop_makes : (f : ℕ) (o : Option Entry) → first_applied f (view c) ≡ o → (lent : List BlockCacheEntry) →
-        pack_outcome (outcome_of (pop_entry o (view c)) lent) ≡ answered_on (first_no (ask 11 (present o) ∷ [])) c (extract_call (pop_request f) lent)
+        pack_outcome (outcome_of (pop_entry o (view c)) lent) ≡ answered_on (first_no (ask NothingApplied (is_some o) ∷ [])) c (extract_call (pop_request f) lent)
     unfolding effect
-    pop_makes f none e lent = ap (λ (x : Cache). record { cache = x; answer = refused 11; slice = lent }) (sym (sound_cache_packed c ok).0)
-    pop_makes f (some M) e lent = ap (λ (o : Option Entry). pack_outcome (outcome_of (pop_entry o (view c)) lent)) (sym e)
+    pop_makes f None e lent = ap (λ (x : Cache). record { cache = x; answer = refused NothingApplied; slice = lent }) (sym (sound_cache_packed c ok).0)
+    pop_makes f (Some M) e lent = ap (λ (o : Option Entry). pack_outcome (outcome_of (pop_entry o (view c)) lent)) (sym e)
 
     pop_few : (o : Option Entry) → length (pop_entry o (view c)).blocks ≤ 128
-    pop_few none = omega arith
-    pop_few (some M) = few_join M
+    pop_few None = omega arith
+    pop_few (Some M) = few_join M
 
     pub pops : (f : ℕ) → seqno_fits f ≡ true → 128 ≤ places → (r : ExtractWithBlocks) → PacksEffect (pop_entry (first_applied f (view c)) (view c)) r → ExtractsWithBlocks c (pop_request f) places r
     unfolding call_on
@@ -316,15 +317,15 @@ module _ (c : Cache) (places : ℕ) where
         let o = first_applied f (view c) in
         let n = pop_few o in
         extracts (pop_entry o (view c)) r p c (pop_request f) places
-        (λ lent long. pop_makes f o refl lent ∙ ap (λ (x : Option ℕ). answered_on x c (extract_call (pop_request f) lent)) (sym (pop_asked f h l lent long))) (omega arith) n
+        (λ lent long. pop_makes f o refl lent ∙ ap (λ (x : Option Refusal). answered_on x c (extract_call (pop_request f) lent)) (sym (pop_asked f h l lent long))) (omega arith) n
 
-    sync_asked : (n : ℕ) → seqno_fits n ≡ true → 128 ≤ places → (lent : List BlockCacheEntry) → length lent ≡ places → first_no (questions_on c (extract_call (sync_request n) lent)) ≡ none
+    sync_asked : (n : ℕ) → seqno_fits n ≡ true → 128 ≤ places → (lent : List BlockCacheEntry) → length lent ≡ places → first_no (questions_on c (extract_call (sync_request n) lent)) ≡ None
     unfolding further some_id
     sync_asked n h l lent long = rw (ok, h, long, le-leb 128 places l)
 
     sync_few : (o : Option Entry) → length (sync_entry o (view c)).blocks ≤ 128
-    sync_few none = omega arith
-    sync_few (some M) = few_join M
+    sync_few None = omega arith
+    sync_few (Some M) = few_join M
 
     pub syncs : (n : ℕ) → seqno_fits n ≡ true → 128 ≤ places → (r : ExtractWithBlocks) → PacksEffect (sync_entry (at_seqno n (view c).masters.entries) (view c)) r → ExtractsWithBlocks c (sync_request n) places r
     unfolding call_on effect some_id
@@ -332,13 +333,13 @@ module _ (c : Cache) (places : ℕ) where
         let o = at_seqno n (view c).masters.entries in
         let k = sync_few o in
         extracts (sync_entry o (view c)) r p c (sync_request n) places
-        (λ lent long. ap (λ (x : Option ℕ). answered_on x c (extract_call (sync_request n) lent)) (sym (sync_asked n h l lent long))) (omega arith) k
+        (λ lent long. ap (λ (x : Option Refusal). answered_on x c (extract_call (sync_request n) lent)) (sym (sync_asked n h l lent long))) (omega arith) k
 
 -- sync extraction does not look at the rest of the id
 pub sync_any_id : (c : Cache) (lent : List BlockCacheEntry) (i : BlockId) → extract_on c (sync_request i.seqno) lent ≡ call_on c (record { request = sync i; lent = lent })
 unfolding call_on effect further some_id
 sync_any_id c lent i = by (first_no (questions_on c (record { request = sync i; lent = lent })))
   where
-    by : (o : Option ℕ) → answered_on o c (extract_call (sync_request i.seqno) lent) ≡ answered_on o c (record { request = sync i; lent = lent })
-    by none = refl
-    by (some n) = refl
+    by : (o : Option Refusal) → answered_on o c (extract_call (sync_request i.seqno) lent) ≡ answered_on o c (record { request = sync i; lent = lent })
+    by None = refl
+    by (Some n) = refl

@@ -1,18 +1,18 @@
 -- Tail ids on a packed cache: each step is the rule's, packed; so is the whole walk; and the call.
 -- Assumes nothing.
+use Rattle.block_records.specs.declared.questions.Refusal.{Refusal}
+use Rattle.block_records.specs.declared.questions.Refusal.TheVariants.{NoMaster, SeqnoLimit, Unsound}
+use Rattle.std.specs.List.{find, flat_map, fold}
+use Rattle.std.specs.Prelude.{Option, option_map, None, Some, map, cond, is_some, Err, Ok, Result, is_none}
 use Rattle.std.proofs.Common.{◌≡◌, ℕ, zero, suc, ◌+◌, ◌<◌, ◌≤◌, Bool, true, false, not, ◌||◌, eqb, leb, List, [], ◌∷◌, ◌++◌, length, get_or, take, set, sym, refl, ap, ◌∙◌, subst, ap₂, append_assoc, append-nil, le_refl, arith, length-append, get_or-take, lt-ltb, le-leb, leb-true}
-use mathlib.Core.Option.{Option, map, none, some}
 use lib.Seq.{get_or_at}
 use Rattle.block_records.specs.declared.block_id.BlockId.{BlockId}
 use Rattle.block_records.specs.declared.block_id.BlockIdShort.{BlockIdShort}
 use Rattle.block_records.specs.declared.block_id.ShardIdent.{ShardIdent}
 use Rattle.block_records.specs.declared.entry.BlockCacheEntry.{BlockCacheEntry}
 use Rattle.block_records.specs.declared.entry.MasterBlock.{MasterBlock}
-use Rattle.block_records.specs.declared.place.Place.{Place}
-use Rattle.block_records.specs.declared.place.Place.TheVariants.{At as place_at, Vacant as vacant_at}
 use Rattle.block_records.specs.declared.top_block.TopBlock.{TopBlock}
 use Rattle.blocks_cache.specs.declared.cache.Cache.{Cache}
-use Rattle.blocks_cache.specs.declared.tail_ids.TailAnswer.TheVariants.{Refused as tails_refused, Rows as tails_given}
 use Rattle.blocks_cache.specs.declared.tail_ids.TailIds.{TailIds}
 use Rattle.blocks_cache.specs.declared.tail_ids.TailIdsRow.{TailIdsRow}
 use Rattle.block_records.proofs.arrays.ArrayLaws.{each_put, get_d_any, getD_each, padded_longer}
@@ -30,7 +30,7 @@ use Rattle.block_records.specs.layout.Entry.{pack_entry, pack_master, pack_prev_
 use Rattle.block_records.specs.layout.Zeros.{zero_id, zero_prev_ids}
 use Rattle.block_records.specs.rules.BlockId.{id_shard, is_masterchain, key, less_shard, listed_prev_ids, listed_tops, same_shard}
 use Rattle.block_records.specs.rules.Entry.{Entry}
-use Rattle.block_records.specs.rules.Lists.{each, find, flat_map, fold, padded, pick, present, put, rising}
+use Rattle.block_records.specs.rules.Lists.{padded, put, rising}
 use Rattle.block_records.specs.rules.Questions.{Question, ask, entry_fits, first_no, key_fits}
 use Rattle.blocks_cache.proofs.arrays.LookupLaws.{cached_block_packed}
 use Rattle.blocks_cache.proofs.arrays.TailRowLaws.{passed, picked, row_level, row_once}
@@ -39,8 +39,7 @@ use Rattle.blocks_cache.proofs.layout.CacheLaws.{sound_cache_packed}
 use Rattle.blocks_cache.proofs.layout.CallLaws.{unsound_answers_1}
 use Rattle.blocks_cache.proofs.layout.CallOnLaws.{first_part_refuses, on_sound, second_part_decides}
 use Rattle.blocks_cache.specs.arrays.Lookup.{cached_block}
-use Rattle.blocks_cache.specs.arrays.MasterData.{pack_last, view_last}
-use Rattle.blocks_cache.specs.arrays.TailIds.{TailState, TailStep, block_tails, cached_row, found_step, fresh_ids, given_tails, hold_given, hold_row, less_last, listed_tails, missing_row, no_step, no_tails, pack_tail, pack_tails, put_row, read_tails, replaces_row, row_at, row_before, row_below, row_held_at, row_place, set_row, step_of, tail_outcome, tails_at, take_queued, take_tail_id, view_tail, view_tails, zero_tail, zeroed_tails}
+use Rattle.blocks_cache.specs.arrays.TailIds.{TailState, TailStep, block_tails, cached_row, found_step, fresh_ids, given_tails, hold_given, hold_row, listed_tails, missing_row, no_step, no_tails, pack_tail, pack_tails, put_row, read_tails, replaces_row, row_at, row_before, row_below, row_held_at, row_place, set_row, step_of, tail_outcome, tails_at, take_queued, take_tail_id, view_tail, view_tails, zero_tail, zeroed_tails}
 use Rattle.blocks_cache.specs.layout.Cache.{call_on, pack, pack_outcome, sound_cache, view}
 use Rattle.blocks_group.proofs.arrays.GroupLaws.{master_at_packed}
 use Rattle.blocks_group.proofs.rules.GroupLaws.{GroupParts, group_parts}
@@ -63,40 +62,36 @@ use Rattle.cache_rules.specs.TailIdsOnce.{OnceWalk, knows, once_begin, once_id, 
 
 -- ===== rows, packed =====
 
-view_pack_last : (o : Option BlockId) → view_last (pack_last o) ≡ o
-view_pack_last none = refl
-view_pack_last (some i) = refl
-
 view_pack_tail : (t : TailRow) → view_tail (pack_tail t) ≡ t
-view_pack_tail t = λ i. record { shard = t.shard; id = view_pack_last t.id i; previous = view_pack_prev_ids t.previous i }
+view_pack_tail t = λ i. record { shard = t.shard; id = t.id; previous = view_pack_prev_ids t.previous i }
 
-view_pack_each : (ts : List TailRow) → each view_tail (each pack_tail ts) ≡ ts
+view_pack_each : (ts : List TailRow) → map view_tail (map pack_tail ts) ≡ ts
 view_pack_each [] = refl
 view_pack_each (t ∷ ts) = ap₂ ◌∷◌ (view_pack_tail t) (view_pack_each ts)
 
-listed_packed : (ts : List TailRow) → listed_tails (pack_tails ts) ≡ each pack_tail ts
-listed_packed ts = take_padded 17 zero_tail (each pack_tail ts)
+listed_packed : (ts : List TailRow) → listed_tails (pack_tails ts) ≡ map pack_tail ts
+listed_packed ts = take_padded 17 zero_tail (map pack_tail ts)
 
 pub view_pack_tails : (ts : List TailRow) → view_tails (pack_tails ts) ≡ ts
-view_pack_tails ts = ap (each view_tail) (listed_packed ts) ∙ view_pack_each ts
+view_pack_tails ts = ap (map view_tail) (listed_packed ts) ∙ view_pack_each ts
 
 -- ===== a row held =====
 
 -- whether a new row replaces the one that is held
-replaces_packed : (t h : TailRow) → replaces_row (pack_tail t) (pack_tail h) ≡ not (present h.id) || less_option t.id h.id
+replaces_packed : (t h : TailRow) → replaces_row (pack_tail t) (pack_tail h) ≡ not (is_some h.id) || less_option t.id h.id
 replaces_packed t h = by t.id h.id
   where
-    by : (a b : Option BlockId) → not (pack_last b).present || less_last (pack_last a) (pack_last b) ≡ not (present b) || less_option a b
-    by none none = refl
-    by none (some b) = refl
-    by (some a) none = refl
-    by (some a) (some b) = refl
+    by : (a b : Option BlockId) → is_none b || less_option a b ≡ not (is_some b) || less_option a b
+    by None None = refl
+    by None (Some b) = refl
+    by (Some a) None = refl
+    by (Some a) (Some b) = refl
 
 put_packed : (t : TailRow) (rows : List TailRow) → length (put tail_before t rows) ≤ 17 → put_row (pack_tail t) (pack_tails rows) ≡ pack_tails (put tail_before t rows)
 put_packed t rows h =
-    let e : put row_before (pack_tail t) (each pack_tail rows) ≡ each pack_tail (put tail_before t rows) = each_put pack_tail tail_before row_before (λ x y. refl) t rows in
+    let e : put row_before (pack_tail t) (map pack_tail rows) ≡ map pack_tail (put tail_before t rows) = each_put pack_tail tail_before row_before (λ x y. refl) t rows in
     let n = length_each pack_tail (put tail_before t rows) in
-    rw (listed_packed rows, e, le-leb (length (each pack_tail (put tail_before t rows))) 17 (omega arith))
+    rw (listed_packed rows, e, le-leb (length (map pack_tail (put tail_before t rows))) 17 (omega arith))
 
 abbrev row_under : ShardIdent → TailRow → Bool
 row_under s t = less_shard t.shard s
@@ -113,56 +108,56 @@ find_packed : (s : ShardIdent) (rows : List TailRow) → rising tail_before rows
 find_packed s rows r d =
     place_finds (row_under s) (row_of s) tail_before (λ x t. less_not_same shard_order x.shard s t)
     (λ x y t u l. rw (differs shard_order y.shard s (λ e. clash (shard_order.trans s x.shard y.shard (shard_order.tri x.shard s u t) l) (rw e (shard_order.irrefl s))))) d rows r
-    ∙ ap (λ (p : Place). element_at (row_under s) (row_of s) d p rows) (sym (place_packed s rows))
+    ∙ ap (λ (p : Result ℕ ℕ). element_at (row_under s) (row_of s) d p rows) (sym (place_packed s rows))
 
 row_packed_at : (rows : List TailRow) (k : ℕ) (d : TailRow) → k < length rows → get_or (pack_tails rows).rows k zero_tail ≡ pack_tail (get_or rows k d)
 row_packed_at rows k d h =
     let n = length_each pack_tail rows in
-    sym (get_or-take (length (each pack_tail rows)) (pack_tails rows).rows k zero_tail (omega arith))
+    sym (get_or-take (length (map pack_tail rows)) (pack_tails rows).rows k zero_tail (omega arith))
     ∙ ap (λ (xs : List TailIdsRow). get_or xs k zero_tail) (listed_packed rows)
-    ∙ get_d_any (each pack_tail rows) k zero_tail (pack_tail d) (omega arith)
+    ∙ get_d_any (map pack_tail rows) k zero_tail (pack_tail d) (omega arith)
     ∙ getD_each pack_tail rows k d
 
 -- a row in the place of another of its shard
-set_packed : (t : TailRow) (rows : List TailRow) (k : ℕ) → row_place t.shard (pack_tails rows) ≡ place_at k → k < length rows → set_row k (pack_tail t) (pack_tails rows) ≡ pack_tails (put tail_before t rows)
+set_packed : (t : TailRow) (rows : List TailRow) (k : ℕ) → row_place t.shard (pack_tails rows) ≡ Ok k → k < length rows → set_row k (pack_tail t) (pack_tails rows) ≡ pack_tails (put tail_before t rows)
 set_packed t rows k e l =
     let n = length_each pack_tail rows in
-    let xs = each pack_tail rows in
+    let xs = map pack_tail rows in
     let m : put row_before (pack_tail t) xs ≡ spliced k (k + 1) (pack_tail t) xs =
     put_replaces row_before (pack_tail t) (row_at t.shard) (row_once (pack_tail t)) (row_level (pack_tail t)) xs k (sym (ap (place (row_below t.shard) (row_at t.shard)) (listed_packed rows)) ∙ e) in
-    let q : put row_before (pack_tail t) xs ≡ each pack_tail (put tail_before t rows) = each_put pack_tail tail_before row_before (λ x y. refl) t rows in
+    let q : put row_before (pack_tail t) xs ≡ map pack_tail (put tail_before t rows) = each_put pack_tail tail_before row_before (λ x y. refl) t rows in
     let s : take (length xs) (padded 17 zero_tail xs) ≡ xs = take_padded 17 zero_tail xs in
     let long = padded_longer 17 zero_tail xs in
     let c : length xs ≡ length (spliced k (k + 1) (pack_tail t) xs) =
     replaced_length (pack_tail t) (padded 17 zero_tail xs) (length xs) long k (omega arith) ∙ ap (λ (ys : List TailIdsRow). length (spliced k (k + 1) (pack_tail t) ys)) s in
-    let a : set (padded 17 zero_tail xs) k (pack_tail t) ≡ padded 17 zero_tail (each pack_tail (put tail_before t rows)) =
+    let a : set (padded 17 zero_tail xs) k (pack_tail t) ≡ padded 17 zero_tail (map pack_tail (put tail_before t rows)) =
     set_replaces (pack_tail t) (padded 17 zero_tail xs) (length xs) long k (omega arith)
     ∙ ap (λ (ys : List TailIdsRow). overwritten (spliced k (k + 1) (pack_tail t) ys) (padded 17 zero_tail xs)) s
     ∙ overwritten_padded 17 zero_tail (spliced k (k + 1) (pack_tail t) xs) xs (omega (arith, c))
     ∙ ap (padded 17 zero_tail) (sym m ∙ q) in
-    let b : length xs ≡ length (each pack_tail (put tail_before t rows)) = c ∙ ap (λ (ys : List TailIdsRow). length ys) (sym m ∙ q) in
+    let b : length xs ≡ length (map pack_tail (put tail_before t rows)) = c ∙ ap (λ (ys : List TailIdsRow). length ys) (sym m ∙ q) in
     λ i. record { rows = a i; count = b i }
 
 module _ (rows : List TailRow) (t : TailRow) (rises : rising tail_before rows ≡ true) (few : length (hold rows t) ≤ 17) where
-  hold_by : (p : Place) → row_place t.shard (pack_tails rows) ≡ p → row_held_at (pack_tail t) p (pack_tails rows) ≡ pack_tails (hold rows t)
-  hold_by (vacant_at k) e =
-      let f : find (row_of t.shard) rows ≡ none = find_packed t.shard rows rises t ∙ ap (λ (p : Place). element_at (row_under t.shard) (row_of t.shard) t p rows) e in
+  hold_by : (p : Result ℕ ℕ) → row_place t.shard (pack_tails rows) ≡ p → row_held_at (pack_tail t) p (pack_tails rows) ≡ pack_tails (hold rows t)
+  hold_by (Err k) e =
+      let f : find (row_of t.shard) rows ≡ None = find_packed t.shard rows rises t ∙ ap (λ (p : Result ℕ ℕ). element_at (row_under t.shard) (row_of t.shard) t p rows) e in
       let q : hold rows t ≡ put tail_before t rows = ap (λ (o : Option TailRow). hold_over t o rows) f in
       put_packed t rows (subst (λ (xs : List TailRow). length xs ≤ 17) q few) ∙ ap pack_tails (sym q)
-  hold_by (place_at k) e =
+  hold_by (Ok k) e =
       let h = get_or rows k t in
-      let f : find (row_of t.shard) rows ≡ some h = find_packed t.shard rows rises t ∙ ap (λ (p : Place). element_at (row_under t.shard) (row_of t.shard) t p rows) e in
+      let f : find (row_of t.shard) rows ≡ Some h = find_packed t.shard rows rises t ∙ ap (λ (p : Result ℕ ℕ). element_at (row_under t.shard) (row_of t.shard) t p rows) e in
       let l = at_within (row_under t.shard) (row_of t.shard) rows k (sym (place_packed t.shard rows) ∙ e) in
-      let q : hold rows t ≡ pick (not (present h.id) || less_option t.id h.id) (put tail_before t rows) rows = ap (λ (o : Option TailRow). hold_over t o rows) f in
-      let g : replaces_row (pack_tail t) (get_or (pack_tails rows).rows k zero_tail) ≡ not (present h.id) || less_option t.id h.id =
+      let q : hold rows t ≡ cond (not (is_some h.id) || less_option t.id h.id) (put tail_before t rows) rows = ap (λ (o : Option TailRow). hold_over t o rows) f in
+      let g : replaces_row (pack_tail t) (get_or (pack_tails rows).rows k zero_tail) ≡ not (is_some h.id) || less_option t.id h.id =
       ap (replaces_row (pack_tail t)) (row_packed_at rows k t l) ∙ replaces_packed t h in
-      on (not (present h.id) || less_option t.id h.id)
+      on (not (is_some h.id) || less_option t.id h.id)
       (λ u.
-      let v : hold rows t ≡ put tail_before t rows = q ∙ sym (picked (not (present h.id) || less_option t.id h.id) (put tail_before t rows) rows u) in
+      let v : hold rows t ≡ put tail_before t rows = q ∙ sym (picked (not (is_some h.id) || less_option t.id h.id) (put tail_before t rows) rows u) in
       sym (picked (replaces_row (pack_tail t) (get_or (pack_tails rows).rows k zero_tail)) (set_row k (pack_tail t) (pack_tails rows)) (pack_tails rows) (g ∙ u))
       ∙ set_packed t rows k e l ∙ ap pack_tails (sym v))
       (λ u.
-      let v : hold rows t ≡ rows = q ∙ sym (passed (not (present h.id) || less_option t.id h.id) (put tail_before t rows) rows u) in
+      let v : hold rows t ≡ rows = q ∙ sym (passed (not (is_some h.id) || less_option t.id h.id) (put tail_before t rows) rows u) in
       sym (passed (replaces_row (pack_tail t) (get_or (pack_tails rows).rows k zero_tail)) (set_row k (pack_tail t) (pack_tails rows)) (pack_tails rows) (g ∙ u)) ∙ ap pack_tails (sym v))
 
   pub hold_packed : hold_row (pack_tail t) (pack_tails rows) ≡ pack_tails (hold rows t)
@@ -180,18 +175,18 @@ no_step_says : Says no_step [] []
 unfolding zero_prev_ids
 no_step_says = record { holds = λ rows r h. refl; queues_them = refl }
 
-missing_says : (i : BlockId) → Says (record { given = true; row = missing_row i; queued = zero_prev_ids }) (record { shard = id_shard i; id = none; previous = i ∷ [] } ∷ []) []
+missing_says : (i : BlockId) → Says (record { given = true; row = missing_row i; queued = zero_prev_ids }) (record { shard = id_shard i; id = None; previous = i ∷ [] } ∷ []) []
 unfolding zero_prev_ids
-missing_says i = record { holds = λ rows r h. hold_packed rows (record { shard = id_shard i; id = none; previous = i ∷ [] }) r h; queues_them = refl }
+missing_says i = record { holds = λ rows r h. hold_packed rows (record { shard = id_shard i; id = None; previous = i ∷ [] }) r h; queues_them = refl }
 
 cached_says : (i : BlockId) (ps : List BlockId) →
-    Says (record { given = true; row = cached_row i (pack_prev_ids ps); queued = pack_prev_ids ps }) (record { shard = id_shard i; id = some i; previous = ps } ∷ []) ps
-cached_says i ps = record { holds = λ rows r h. hold_packed rows (record { shard = id_shard i; id = some i; previous = ps }) r h; queues_them = view_pack_prev_ids ps }
+    Says (record { given = true; row = cached_row i (pack_prev_ids ps); queued = pack_prev_ids ps }) (record { shard = id_shard i; id = Some i; previous = ps } ∷ []) ps
+cached_says i ps = record { holds = λ rows r h. hold_packed rows (record { shard = id_shard i; id = Some i; previous = ps }) r h; queues_them = view_pack_prev_ids ps }
 
 module _ (m : ℕ) (as_top : Bool) (i : BlockId) where
-  found_says : (o : Option Entry) → Says (found_step m as_top i (map pack_entry o)) (found_gives m as_top i o) (found_queues m as_top o)
-  found_says none = on as_top (λ t. rw t (missing_says i)) (λ t. rw t no_step_says)
-  found_says (some x) = on (as_top || eqb x.reference m) (λ t. rw t (cached_says i x.previous)) (λ t. rw t no_step_says)
+  found_says : (o : Option Entry) → Says (found_step m as_top i (option_map pack_entry o)) (found_gives m as_top i o) (found_queues m as_top o)
+  found_says None = on as_top (λ t. rw t (missing_says i)) (λ t. rw t no_step_says)
+  found_says (Some x) = on (as_top || eqb x.reference m) (λ t. rw t (cached_says i x.previous)) (λ t. rw t no_step_says)
 
   step_says : (mo : Model) → sound_model mo ≡ true → Says (step_of (pack mo) m as_top i) (gives mo.shards m as_top i) (queues mo.shards m as_top i)
   unfolding step_of
@@ -207,8 +202,8 @@ hold_longer : (rows : List TailRow) (t : TailRow) → length rows ≤ length (ho
 hold_longer rows t = by (find (row_of t.shard) rows)
   where
     by : (o : Option TailRow) → length rows ≤ length (hold_over t o rows)
-    by none = put_longer tail_before t rows
-    by (some h) = on (not (present h.id) || less_option t.id h.id) (λ u. rw u (put_longer tail_before t rows)) (λ u. rw u (le_refl (length rows)))
+    by None = put_longer tail_before t rows
+    by (Some h) = on (not (is_some h.id) || less_option t.id h.id) (λ u. rw u (put_longer tail_before t rows)) (λ u. rw u (le_refl (length rows)))
 
 fold_longer : (ts rows : List TailRow) → length rows ≤ length (fold hold rows ts)
 fold_longer [] rows = le_refl (length rows)
@@ -383,14 +378,14 @@ module _ (mo : Model) (ok : sound_model mo ≡ true) (M : Entry) (fit : entry_fi
     rises : rising tail_before tops_rows ≡ true
     rises = fold_rising (flat_map (gives mo.shards mm true) (top_ids M)) (first_row M ∷ []) refl
 
-    tops_taken : fold (take_tail_id (pack mo) mm true) (packed_state (first_row M ∷ []) []) (each top_id (listed_tops (pack_tops M.tops))) ≡ packed_state tops_rows tops_queue
+    tops_taken : fold (take_tail_id (pack mo) mm true) (packed_state (first_row M ∷ []) []) (map top_id (listed_tops (pack_tops M.tops))) ≡ packed_state tops_rows tops_queue
     tops_taken =
-        ap (λ (ts : List TopBlock). fold (take_tail_id (pack mo) mm true) (packed_state (first_row M ∷ []) []) (each top_id ts)) (view_pack_tops M.tops)
+        ap (λ (ts : List TopBlock). fold (take_tail_id (pack mo) mm true) (packed_state (first_row M ∷ []) []) (map top_id ts)) (view_pack_tops M.tops)
         ∙ tops_packed mo ok mm (top_ids M) (first_row M ∷ []) [] refl
         (omega (arith, rows_grow mo ok mm tops_rows rises k [] tops_queue, end_few))
         (omega (arith, known_grow mo ok mm tops_rows rises k [] tops_queue, known_few))
 
-    walk_packed : (take_queued k (pack mo) mm 0 (fold (take_tail_id (pack mo) mm true) (packed_state (first_row M ∷ []) []) (each top_id (listed_tops (pack_tops M.tops))))).tails
+    walk_packed : (take_queued k (pack mo) mm 0 (fold (take_tail_id (pack mo) mm true) (packed_state (first_row M ∷ []) []) (map top_id (listed_tops (pack_tops M.tops))))).tails
         ≡ pack_tails (tails_of mo.shards M)
     walk_packed =
         ap (λ (w : TailState). (take_queued k (pack mo) mm 0 w).tails) tops_taken
@@ -409,7 +404,7 @@ tails_zeroed ts = ap (λ (xs : List TailRow). given_tails (pack_tails xs)) (sym 
 
 -- 12: the zerostate is not passed, or there is a master at the seqno
 abbrev cached_question : BlockIdShort → Model → List Question
-cached_question k m = ask 12 (leb k.seqno m.zerostate || present (at_seqno k.seqno m.masters.entries)) ∷ []
+cached_question k m = ask NoMaster (leb k.seqno m.zerostate || is_some (at_seqno k.seqno m.masters.entries)) ∷ []
 
 module _ (k : BlockIdShort) (mo : Model) (ok : sound_model mo ≡ true) where
   abbrev call : Call
@@ -418,7 +413,7 @@ module _ (k : BlockIdShort) (mo : Model) (ok : sound_model mo ≡ true) where
   abbrev masters_ok : GroupParts is_masterchain mo.masters
   masters_ok = group_parts is_masterchain mo.masters (parts mo ok).rest.masters
 
-  master_fits : (M : Entry) → at_seqno k.seqno mo.masters.entries ≡ some M → entry_fits M ≡ true
+  master_fits : (M : Entry) → at_seqno k.seqno mo.masters.entries ≡ Some M → entry_fits M ≡ true
   master_fits M f =
       and_right (is_masterchain (id_shard M.id)) (entry_fits M)
       (every_member (fits_in is_masterchain) mo.masters.entries masters_ok.fit (find_member (has_seqno k.seqno) mo.masters.entries f))
@@ -428,12 +423,12 @@ module _ (k : BlockIdShort) (mo : Model) (ok : sound_model mo ≡ true) where
   Read r = (tail_outcome (pack mo) r ≡ pack_outcome (answered (first_no (cached_question k mo)) mo (unlent (read_tail_ids k)))) × (r ≡ zeroed_tails r)
 
   -- the rule's outcome, by what was asked and what its effect is
-  ruled : (o : Option ℕ) → first_no (cached_question k mo) ≡ o → pack_outcome (answered o mo call) ≡ pack_outcome (answered (first_no (cached_question k mo)) mo call)
-  ruled o q = ap (λ (x : Option ℕ). pack_outcome (answered x mo call)) (sym q)
+  ruled : (o : Option Refusal) → first_no (cached_question k mo) ≡ o → pack_outcome (answered o mo call) ≡ pack_outcome (answered (first_no (cached_question k mo)) mo call)
+  ruled o q = ap (λ (x : Option Refusal). pack_outcome (answered x mo call)) (sym q)
 
-  effected : (e : Effect) → effect mo (read_tail_ids k) ≡ e → first_no (cached_question k mo) ≡ none →
+  effected : (e : Effect) → effect mo (read_tail_ids k) ≡ e → first_no (cached_question k mo) ≡ None →
       pack_outcome (outcome_of e []) ≡ pack_outcome (answered (first_no (cached_question k mo)) mo call)
-  effected e q n = ap (λ (x : Effect). pack_outcome (outcome_of x [])) (sym q) ∙ ruled none n
+  effected e q n = ap (λ (x : Effect). pack_outcome (outcome_of x [])) (sym q) ∙ ruled None n
 
   effect_early : leb k.seqno mo.zerostate ≡ true → effect mo (read_tail_ids k) ≡ plain (tail_ids []) mo
   unfolding effect
@@ -445,13 +440,13 @@ module _ (k : BlockIdShort) (mo : Model) (ok : sound_model mo ≡ true) where
       sym (passed (leb k.seqno mo.zerostate) (plain (tail_ids []) mo) (tail_ids_entry (at_seqno k.seqno mo.masters.entries) mo) h)
       ∙ ap (λ (x : Option Entry). tail_ids_entry x mo) f
 
-  read_at : leb k.seqno mo.zerostate ≡ false → (o : Option Entry) → at_seqno k.seqno mo.masters.entries ≡ o → Read (tails_at (map pack_master o) (pack mo))
-  read_at h none f = (ruled (some 12) (rw (h, f)), refl)
-  read_at h (some M) f =
+  read_at : leb k.seqno mo.zerostate ≡ false → (o : Option Entry) → at_seqno k.seqno mo.masters.entries ≡ o → Read (tails_at (option_map pack_master o) (pack mo))
+  read_at h None f = (ruled (Some NoMaster) (rw (h, f)), refl)
+  read_at h (Some M) f =
       let ts = tails_of mo.shards M in
       let v : given_tails (block_tails (pack_master M) (pack mo)) ≡ given_tails (pack_tails ts) = ap given_tails (block_tails_packed mo ok M (master_fits M f)) in (
         ap (tail_outcome (pack mo)) v ∙ ap (λ (xs : List TailRow). record { cache = pack mo; answer = tail_ids xs; slice = [] }) (view_pack_tails ts)
-            ∙ effected (plain (tail_ids ts) mo) (effect_late h (some M) f) (rw (h, f)),
+            ∙ effected (plain (tail_ids ts) mo) (effect_late h (Some M) f) (rw (h, f)),
         v ∙ tails_zeroed ts ∙ ap zeroed_tails (sym v),
       )
 
@@ -460,10 +455,10 @@ module _ (k : BlockIdShort) (mo : Model) (ok : sound_model mo ≡ true) where
   read_packed =
       let at = tails_at (answered_master (master_at k.seqno (pack_master_group mo.masters))) (pack mo) in
       on (leb k.seqno mo.zerostate)
-      (λ h. subst Read (picked (leb k.seqno mo.zerostate) (no_tails tails_given) at h) (effected (plain (tail_ids []) mo) (effect_early h) (rw h), refl))
+      (λ h. subst Read (picked (leb k.seqno mo.zerostate) (no_tails (Ok tt)) at h) (effected (plain (tail_ids []) mo) (effect_early h) (rw h), refl))
       (λ h.
       let e = master_at_packed k.seqno mo.masters masters_ok.order in
-      subst Read (ap (λ (o : Option MasterBlock). tails_at o (pack mo)) (sym e) ∙ passed (leb k.seqno mo.zerostate) (no_tails tails_given) at h)
+      subst Read (ap (λ (o : Option MasterBlock). tails_at o (pack mo)) (sym e) ∙ passed (leb k.seqno mo.zerostate) (no_tails (Ok tt)) at h)
       (read_at h (at_seqno k.seqno mo.masters.entries) refl))
 
   pub read_tails_packed : tail_outcome (pack mo) (read_tails k.seqno (pack mo)) ≡ pack_outcome (answered (first_no (cached_question k mo)) mo (unlent (read_tail_ids k)))
@@ -473,29 +468,29 @@ module _ (k : BlockIdShort) (mo : Model) (ok : sound_model mo ≡ true) where
   read_tails_zeroed = read_packed.1
 
 module _ (c : Cache) (k : BlockIdShort) (r : TailIds) where
-  no_rows_zeroed : (n : ℕ) → r ≡ no_tails (tails_refused n) → r ≡ zeroed_tails r
+  no_rows_zeroed : (n : Refusal) → r ≡ no_tails (Err n) → r ≡ zeroed_tails r
   no_rows_zeroed n e = e ∙ ap zeroed_tails (sym e)
 
-  refused_said : (n : ℕ) → r ≡ no_tails (tails_refused n) → tail_outcome c r ≡ record { cache = c; answer = refused n; slice = [] }
+  refused_said : (n : Refusal) → r ≡ no_tails (Err n) → tail_outcome c r ≡ record { cache = c; answer = refused n; slice = [] }
   refused_said n e = ap (tail_outcome c) e
 
-  pub tails_unsound : sound_cache c ≡ false → r ≡ no_tails (tails_refused 1) → (tail_outcome c r ≡ call_on c (unlent (read_tail_ids k))) × (r ≡ zeroed_tails r)
-  tails_unsound h e = (refused_said 1 e ∙ sym (unsound_answers_1 c (unlent (read_tail_ids k)) h), no_rows_zeroed 1 e)
+  pub tails_unsound : sound_cache c ≡ false → r ≡ no_tails (Err Unsound) → (tail_outcome c r ≡ call_on c (unlent (read_tail_ids k))) × (r ≡ zeroed_tails r)
+  tails_unsound h e = (refused_said Unsound e ∙ sym (unsound_answers_1 c (unlent (read_tail_ids k)) h), no_rows_zeroed Unsound e)
 
   module _ (ok : sound_cache c ≡ true) where
-    asked_key : further (view c) 0 (read_tail_ids k) ≡ (ask 2 (key_fits k) ∷ []) ++ cached_question k (view c)
+    asked_key : further (view c) 0 (read_tail_ids k) ≡ (ask SeqnoLimit (key_fits k) ∷ []) ++ cached_question k (view c)
     unfolding further
     asked_key = refl
 
-    pub tails_refuses : key_fits k ≡ false → r ≡ no_tails (tails_refused 2) → (tail_outcome c r ≡ call_on c (unlent (read_tail_ids k))) × (r ≡ zeroed_tails r)
+    pub tails_refuses : key_fits k ≡ false → r ≡ no_tails (Err SeqnoLimit) → (tail_outcome c r ≡ call_on c (unlent (read_tail_ids k))) × (r ≡ zeroed_tails r)
     tails_refuses h e =
-        (refused_said 2 e ∙ sym (first_part_refuses c (unlent (read_tail_ids k)) ok (ask 2 (key_fits k) ∷ []) (cached_question k (view c)) asked_key 2 (rw h)), no_rows_zeroed 2 e)
+        (refused_said SeqnoLimit e ∙ sym (first_part_refuses c (unlent (read_tail_ids k)) ok (ask SeqnoLimit (key_fits k) ∷ []) (cached_question k (view c)) asked_key SeqnoLimit (rw h)), no_rows_zeroed SeqnoLimit e)
 
     pub tails_are : key_fits k ≡ true → r ≡ read_tails k.seqno c → (tail_outcome c r ≡ call_on c (unlent (read_tail_ids k))) × (r ≡ zeroed_tails r)
     tails_are h e =
         let p = sound_cache_packed c ok in (
           ap (tail_outcome c) e
               ∙ on_sound (unlent (read_tail_ids k)) (λ (c : Cache). tail_outcome c (read_tails k.seqno c)) (cached_question k) (read_tails_packed k) c ok
-              ∙ sym (second_part_decides c (unlent (read_tail_ids k)) ok (ask 2 (key_fits k) ∷ []) (cached_question k (view c)) asked_key (rw h)),
+              ∙ sym (second_part_decides c (unlent (read_tail_ids k)) ok (ask SeqnoLimit (key_fits k) ∷ []) (cached_question k (view c)) asked_key (rw h)),
           e ∙ subst (λ (x : Cache). read_tails k.seqno x ≡ zeroed_tails (read_tails k.seqno x)) (sym p.0) (read_tails_zeroed k (view c) p.1) ∙ ap zeroed_tails (sym e),
         )

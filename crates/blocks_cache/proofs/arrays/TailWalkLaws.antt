@@ -1,16 +1,16 @@
 -- The walk of tail ids in its arrays: one turn of its two loops.
 -- Assumes nothing.
+use Rattle.block_records.specs.declared.questions.Refusal.TheVariants.{NoMaster}
+use Rattle.std.specs.List.{fold}
+use Rattle.std.specs.Prelude.{map, cond, Err, Ok, Result}
 use Rattle.std.proofs.Common.{◌≡◌, ℕ, zero, suc, ◌+◌, ◌-◌, ◌<◌, ◌≤◌, Bool, true, false, leb, List, [], ◌∷◌, ◌++◌, length, get_or, take, set, replicate, sym, refl, ap, ◌∙◌, ap₂, append_assoc, append-nil, arith, length-append, get_or-take, le-ltb, lt-ltb, le-leb, leb-true}
 use borrow.Author.Tests.{lt-leb}
 use Rattle.block_records.specs.declared.block_id.BlockId.{BlockId}
 use Rattle.block_records.specs.declared.entry.MasterBlock.{MasterBlock}
-use Rattle.block_records.specs.declared.place.Place.{Place}
-use Rattle.block_records.specs.declared.place.Place.TheVariants.{At as place_at, Vacant as vacant_at}
-use Rattle.block_records.specs.declared.store_records.PrevIds.{PrevIds}
+use Rattle.block_records.specs.layout.Listed.{PrevIds}
 use Rattle.block_records.specs.declared.top_block.TopBlock.{TopBlock}
-use Rattle.block_records.specs.declared.top_block.TopBlocks.{TopBlocks}
+use Rattle.block_records.specs.layout.Listed.{TopBlocks}
 use Rattle.blocks_cache.specs.declared.cache.Cache.{Cache}
-use Rattle.blocks_cache.specs.declared.tail_ids.TailAnswer.TheVariants.{Refused as tails_refused, Rows as tails_given}
 use Rattle.blocks_cache.specs.declared.tail_ids.TailIds.{TailIds}
 use Rattle.blocks_cache.specs.declared.tail_ids.TailIdsRow.{TailIdsRow}
 use Rattle.blocks_cache.specs.declared.tail_ids.TailRows.{TailRows}
@@ -22,9 +22,9 @@ use Rattle.block_records.proofs.layout.EntryLaws.{take_padded}
 use Rattle.block_records.proofs.rules.ListLaws.{length_each}
 use Rattle.block_records.proofs.rules.Tests.{on}
 use Rattle.block_records.specs.layout.Entry.{pack_prev_ids}
-use Rattle.block_records.specs.layout.Zeros.{zero_id, zero_prev_ids}
+use Rattle.block_records.specs.layout.Zeros.{zero_id, zero_prev_ids, zero_shard}
 use Rattle.block_records.specs.rules.BlockId.{listed_prev_ids, listed_tops}
-use Rattle.block_records.specs.rules.Lists.{each, fold, padded, pick}
+use Rattle.block_records.specs.rules.Lists.{padded}
 use Rattle.blocks_cache.specs.arrays.TailIds.{TailState, TailStep, block_tails, cached_row, fingerprint, first_state, fresh_ids, given_tails, hold_given, no_step, no_tails, pack_walk, read_tails, step_of, stepped, tails_at, take_queued, take_queued_at, take_tail_id, walk_state}
 use Rattle.blocks_group.specs.arrays.Group.{answered_master, master_at, when_found}
 use Rattle.cache_rules.specs.Extraction.{top_id}
@@ -64,16 +64,16 @@ fresh_room known few ps =
 
 -- the fingerprint of a zero is a zero
 fingerprint_zero : fingerprint zero_id ≡ 0
-unfolding fingerprint zero_id
+unfolding fingerprint zero_id zero_shard
 fingerprint_zero = refl
 
 -- d is any id, k any number
-first_fingerprint : (new : List BlockId) (d : BlockId) (k : ℕ) → fingerprint (get_or (padded 2 zero_id new) 0 d) ≡ get_or (padded 2 0 (each fingerprint new)) 0 k
+first_fingerprint : (new : List BlockId) (d : BlockId) (k : ℕ) → fingerprint (get_or (padded 2 zero_id new) 0 d) ≡ get_or (padded 2 0 (map fingerprint new)) 0 k
 unfolding padded
 first_fingerprint [] d k = fingerprint_zero
 first_fingerprint (a ∷ new) d k = refl
 
-second_fingerprint : (new : List BlockId) (d : BlockId) (k : ℕ) → fingerprint (get_or (padded 2 zero_id new) 1 d) ≡ get_or (padded 2 0 (each fingerprint new)) 1 k
+second_fingerprint : (new : List BlockId) (d : BlockId) (k : ℕ) → fingerprint (get_or (padded 2 zero_id new) 1 d) ≡ get_or (padded 2 0 (map fingerprint new)) 1 k
 unfolding padded
 second_fingerprint [] d k = fingerprint_zero
 second_fingerprint (a ∷ []) d k = fingerprint_zero
@@ -81,13 +81,13 @@ second_fingerprint (a ∷ b ∷ new) d k = refl
 
 -- the fingerprints are written beside the ids
 fingerprints_written : (known new : List BlockId) (d e : BlockId) → length known ≤ 256 → length new ≤ 2 →
-    set (set (padded 258 0 (each fingerprint known)) (length known) (fingerprint (get_or (padded 2 zero_id new) 0 d))) (length known + 1) (fingerprint (get_or (padded 2 zero_id new) 1 e))
-    ≡ padded 258 0 (each fingerprint (known ++ new))
+    set (set (padded 258 0 (map fingerprint known)) (length known) (fingerprint (get_or (padded 2 zero_id new) 0 d))) (length known + 1) (fingerprint (get_or (padded 2 zero_id new) 1 e))
+    ≡ padded 258 0 (map fingerprint (known ++ new))
 fingerprints_written known new d e few two =
     let n = length_each fingerprint known in
-    ap₂ (λ (x y : ℕ). set (set (padded 258 0 (each fingerprint known)) (length known) x) (length known + 1) y) (first_fingerprint new d 0) (second_fingerprint new e 0)
-    ∙ ap (λ (k : ℕ). set (set (padded 258 0 (each fingerprint known)) k (get_or (padded 2 0 (each fingerprint new)) 0 0)) (k + 1) (get_or (padded 2 0 (each fingerprint new)) 1 0)) (sym n)
-    ∙ fresh_written 0 (each fingerprint known) (omega (arith, n)) (each fingerprint new) 0 0 (omega (arith, length_each fingerprint new))
+    ap₂ (λ (x y : ℕ). set (set (padded 258 0 (map fingerprint known)) (length known) x) (length known + 1) y) (first_fingerprint new d 0) (second_fingerprint new e 0)
+    ∙ ap (λ (k : ℕ). set (set (padded 258 0 (map fingerprint known)) k (get_or (padded 2 0 (map fingerprint new)) 0 0)) (k + 1) (get_or (padded 2 0 (map fingerprint new)) 1 0)) (sym n)
+    ∙ fresh_written 0 (map fingerprint known) (omega (arith, n)) (map fingerprint new) 0 0 (omega (arith, length_each fingerprint new))
     ∙ ap (padded 258 0) (sym (each_append fingerprint known new))
 
 -- ===== where a loop stands =====
@@ -98,7 +98,7 @@ pub record Waits (ids : List BlockId) (prints : List ℕ) (count : ℕ) : Type 0
   pub few : length known ≤ 256
   pub number : count ≡ length known
   pub places : ids ≡ padded 258 zero_id known
-  pub fingerprints : prints ≡ padded 258 0 (each fingerprint known)
+  pub fingerprints : prints ≡ padded 258 0 (map fingerprint known)
 
 abbrev state_of : TailRows → {ids : List BlockId} {prints : List ℕ} {count : ℕ} → Waits ids prints count → TailState
 state_of t w = record { tails = t; known = w.known }
@@ -116,13 +116,13 @@ module _ (ids : List BlockId) (prints : List ℕ) (count : ℕ) (w : Waits ids p
   waits_known = ap (take count) w.places ∙ ap (λ (n : ℕ). take n (padded 258 zero_id w.known)) w.number ∙ take_padded 258 zero_id w.known
 
   pub waits_length : length prints ≡ 258
-  waits_length = ap length w.fingerprints ∙ length_padded 258 0 (each fingerprint w.known) (omega (arith, length_each fingerprint w.known, w.few))
+  waits_length = ap length w.fingerprints ∙ length_padded 258 0 (map fingerprint w.known) (omega (arith, length_each fingerprint w.known, w.few))
 
   -- the fingerprints of those that wait
-  pub waits_fingerprints : take count prints ≡ each fingerprint (take count ids)
+  pub waits_fingerprints : take count prints ≡ map fingerprint (take count ids)
   waits_fingerprints =
-      ap (take count) w.fingerprints ∙ take_padded_at 258 0 (each fingerprint w.known) count (length_each fingerprint w.known ∙ sym w.number)
-      ∙ ap (each fingerprint) (sym waits_known)
+      ap (take count) w.fingerprints ∙ take_padded_at 258 0 (map fingerprint w.known) count (length_each fingerprint w.known ∙ sym w.number)
+      ∙ ap (map fingerprint) (sym waits_known)
 
 -- one id is taken
 module _ (c : Cache) (m : ℕ) (as_top : Bool) (tails : TailRows) (ids : List BlockId) (prints : List ℕ) (count : ℕ) (w : Waits ids prints count) (i : BlockId) (s : TailStep)
@@ -145,19 +145,19 @@ module _ (c : Cache) (m : ℕ) (as_top : Bool) (tails : TailRows) (ids : List Bl
       ∙ ap (λ (xs : List BlockId). w.known ++ xs) (sym (same_either (leb (length w.known + 0) 256))) ∙ append-nil w.known in
       ap (λ (xs : List BlockId). record { tails = t; known = xs }) (sym n) ∙ taken_is t of_rows
     where
-      same_either : (b : Bool) → ◌≡◌ {A = List BlockId} [] (pick b [] [])
+      same_either : (b : Bool) → ◌≡◌ {A = List BlockId} [] (cond b [] [])
       same_either true = refl
       same_either false = refl
 
   -- those that are new are written, with their fingerprints
-  module _ (fresh : PrevIds) (of_fresh : fresh ≡ pack_prev_ids (fresh_ids (take count ids) (listed_prev_ids s.queued))) (two : length fresh.ids ≡ 2) (d e : BlockId)
-      (x y : ℕ) (of_first : x ≡ fingerprint (get_or fresh.ids 0 d)) (of_second : y ≡ fingerprint (get_or fresh.ids 1 e)) where
+  module _ (fresh : PrevIds) (of_fresh : fresh ≡ pack_prev_ids (fresh_ids (take count ids) (listed_prev_ids s.queued))) (two : length fresh.items ≡ 2) (d e : BlockId)
+      (x y : ℕ) (of_first : x ≡ fingerprint (get_or fresh.items 0 d)) (of_second : y ≡ fingerprint (get_or fresh.items 1 e)) where
     fresh_is : fresh ≡ pack_prev_ids new_ids
     fresh_is = of_fresh ∙ ap (λ (xs : List BlockId). pack_prev_ids (fresh_ids xs (listed_prev_ids s.queued))) (waits_known ids prints count w)
 
-    pub waits_more : Waits (set (set ids count (get_or fresh.ids 0 d)) (count + 1) (get_or fresh.ids 1 e)) (set (set prints count x) (count + 1) y) (count + fresh.count)
+    pub waits_more : Waits (set (set ids count (get_or fresh.items 0 d)) (count + 1) (get_or fresh.items 1 e)) (set (set prints count x) (count + 1) y) (count + fresh.count)
     waits_more =
-        let f : fresh.ids ≡ padded 2 zero_id new_ids = ap (λ (p : PrevIds). p.ids) fresh_is in
+        let f : fresh.items ≡ padded 2 zero_id new_ids = ap (λ (p : PrevIds). p.items) fresh_is in
         let l : length new_ids ≤ 2 = omega (arith, padded_longer 2 zero_id new_ids, ap length f, two) in
         let fx : x ≡ fingerprint (get_or (padded 2 zero_id new_ids) 0 d) = of_first ∙ ap (λ (xs : List BlockId). fingerprint (get_or xs 0 d)) f in
         let fy : y ≡ fingerprint (get_or (padded 2 zero_id new_ids) 1 e) = of_second ∙ ap (λ (xs : List BlockId). fingerprint (get_or xs 1 e)) f in
@@ -180,13 +180,13 @@ module _ (c : Cache) (m : ℕ) (as_top : Bool) (tails : TailRows) (ids : List Bl
 
 module _ (c : Cache) (m : ℕ) (items : List TopBlock) (listed : ℕ) (tails₀ : TailRows) where
   abbrev after_items : TailState → List TopBlock → TailState
-  after_items w ts = fold (take_tail_id c m true) w (each top_id ts)
+  after_items w ts = fold (take_tail_id c m true) w (map top_id ts)
 
   -- those that are left make of the walk so far what all make of the first
   pub record TopsTaken (i : ℕ) (tails : TailRows) (ids : List BlockId) (prints : List ℕ) (count : ℕ) : Type 0 where
     pub waits : Waits ids prints count
-    pub rest : fold (take_tail_id c m true) (record { tails = tails₀; known = [] }) (each top_id (take listed items))
-        ≡ fold (take_tail_id c m true) (record { tails = tails; known = waits.known }) (each top_id (left items listed i))
+    pub rest : fold (take_tail_id c m true) (record { tails = tails₀; known = [] }) (map top_id (take listed items))
+        ≡ fold (take_tail_id c m true) (record { tails = tails; known = waits.known }) (map top_id (left items listed i))
 
   pub tops_start : (z : BlockId) → z ≡ zero_id → TopsTaken 0 tails₀ (replicate 258 z) (replicate 258 0) 0
   unfolding waits_none
@@ -198,7 +198,7 @@ module _ (c : Cache) (m : ℕ) (items : List TopBlock) (listed : ℕ) (tails₀ 
 
     pub tops_passed : listed ≤ i →
         record { tails = tails; ids = ids; fingerprints = prints; count = count }
-        ≡ pack_walk (fold (take_tail_id c m true) (record { tails = tails₀; known = [] }) (each top_id (take listed items)))
+        ≡ pack_walk (fold (take_tail_id c m true) (record { tails = tails₀; known = [] }) (map top_id (take listed items)))
     tops_passed h =
         let a = w.places in
         let p = w.fingerprints in
@@ -209,7 +209,7 @@ module _ (c : Cache) (m : ℕ) (items : List TopBlock) (listed : ℕ) (tails₀ 
     -- x is any item
     module _ (x : TopBlock) (h : i < length items) (k : i < listed) where
       top_taken : (st : TailState) → st ≡ take_tail_id c m true (state_of tails w) (get_or items i x).block_id →
-          fold (take_tail_id c m true) (record { tails = tails₀; known = [] }) (each top_id (take listed items)) ≡ after_items st (left items listed (i + 1))
+          fold (take_tail_id c m true) (record { tails = tails₀; known = [] }) (map top_id (take listed items)) ≡ after_items st (left items listed (i + 1))
       top_taken st e =
           v.rest ∙ ap (after_items (state_of tails w)) (left_more items listed i x h k)
           ∙ ap (λ (y : TailState). after_items y (left items listed (i + 1))) (sym e)
@@ -220,9 +220,9 @@ module _ (c : Cache) (m : ℕ) (items : List TopBlock) (listed : ℕ) (tails₀ 
           record { waits = w; rest = top_taken (state_of t w) (unqueued_is c m true tails ids prints count w (get_or items i x).block_id s of_step e t of_rows) }
 
       pub tops_next : (s : TailStep) → s ≡ step_of c m true (get_or items i x).block_id → (t : TailRows) → t ≡ hold_given s tails → (fresh : PrevIds) →
-          fresh ≡ pack_prev_ids (fresh_ids (take count ids) (listed_prev_ids s.queued)) → length fresh.ids ≡ 2 → (d e : BlockId) (p q : ℕ) →
-          p ≡ fingerprint (get_or fresh.ids 0 d) → q ≡ fingerprint (get_or fresh.ids 1 e) →
-          TopsTaken (i + 1) t (set (set ids count (get_or fresh.ids 0 d)) (count + 1) (get_or fresh.ids 1 e)) (set (set prints count p) (count + 1) q) (count + fresh.count)
+          fresh ≡ pack_prev_ids (fresh_ids (take count ids) (listed_prev_ids s.queued)) → length fresh.items ≡ 2 → (d e : BlockId) (p q : ℕ) →
+          p ≡ fingerprint (get_or fresh.items 0 d) → q ≡ fingerprint (get_or fresh.items 1 e) →
+          TopsTaken (i + 1) t (set (set ids count (get_or fresh.items 0 d)) (count + 1) (get_or fresh.items 1 e)) (set (set prints count p) (count + 1) q) (count + fresh.count)
       unfolding waits_more
       tops_next s of_step t of_rows fresh of_fresh two d e p q of_p of_q =
           record {
@@ -289,9 +289,9 @@ module _ (c : Cache) (m : ℕ) (walk : TailWalk) where
           record { waits = v.waits; bound = omega arith; rest = id_taken (state_of tails v.waits) (unqueued_is c m false tails ids prints count v.waits (get_or ids j x) no_step of_step refl tails refl) }
 
       pub queue_next : (s : TailStep) → s ≡ step_of c m false (get_or ids j x) → (t : TailRows) → t ≡ hold_given s tails → (fresh : PrevIds) →
-          fresh ≡ pack_prev_ids (fresh_ids (take count ids) (listed_prev_ids s.queued)) → length fresh.ids ≡ 2 → (d e : BlockId) (p q : ℕ) →
-          p ≡ fingerprint (get_or fresh.ids 0 d) → q ≡ fingerprint (get_or fresh.ids 1 e) →
-          QueueTaken (j + 1) t (set (set ids count (get_or fresh.ids 0 d)) (count + 1) (get_or fresh.ids 1 e)) (set (set prints count p) (count + 1) q) (count + fresh.count)
+          fresh ≡ pack_prev_ids (fresh_ids (take count ids) (listed_prev_ids s.queued)) → length fresh.items ≡ 2 → (d e : BlockId) (p q : ℕ) →
+          p ≡ fingerprint (get_or fresh.items 0 d) → q ≡ fingerprint (get_or fresh.items 1 e) →
+          QueueTaken (j + 1) t (set (set ids count (get_or fresh.items 0 d)) (count + 1) (get_or fresh.items 1 e)) (set (set prints count p) (count + 1) q) (count + fresh.count)
       unfolding waits_more
       queue_next s of_step t of_rows fresh of_fresh two d e p q of_p of_q =
           record {
@@ -310,15 +310,15 @@ ids_few c m as_top (i ∷ is) w h =
     ids_few c m as_top is (take_tail_id c m as_top w i) (fresh_room w.known h (listed_prev_ids (step_of c m as_top i).queued))
 
 module _ (c : Cache) (m : ℕ) (first : TailIdsRow) (tops : TopBlocks) (walk : TailWalk)
-    (of_tops : walk ≡ pack_walk (fold (take_tail_id c m true) (first_state first) (each top_id (listed_tops tops)))) where
+    (of_tops : walk ≡ pack_walk (fold (take_tail_id c m true) (first_state first) (map top_id (listed_tops tops)))) where
   abbrev after_tops : TailState
-  after_tops = fold (take_tail_id c m true) (first_state first) (each top_id (listed_tops tops))
+  after_tops = fold (take_tail_id c m true) (first_state first) (map top_id (listed_tops tops))
 
   state_after : walk_state walk ≡ after_tops
   state_after = ap walk_state of_tops ∙ ap (λ (ids : List BlockId). record { tails = after_tops.tails; known = ids }) (take_padded 258 zero_id after_tops.known)
 
   pub tops_laid : (walk.count ≤ 256) × (walk ≡ pack_walk (walk_state walk))
-  tops_laid = (rw (ap (λ (x : TailWalk). x.count) of_tops) (ids_few c m true (each top_id (listed_tops tops)) (first_state first) (omega arith)), of_tops ∙ ap pack_walk (sym state_after))
+  tops_laid = (rw (ap (λ (x : TailWalk). x.count) of_tops) (ids_few c m true (map top_id (listed_tops tops)) (first_state first) (omega arith)), of_tops ∙ ap pack_walk (sym state_after))
 
   pub tails_walked : (b : MasterBlock) → first ≡ cached_row b.entry.block_id b.entry.prev_ids → tops ≡ b.tops → m ≡ b.entry.block_id.seqno →
       (t : TailRows) → t ≡ (take_queued 256 c m 0 (walk_state walk)).tails → t ≡ block_tails b c
@@ -330,19 +330,19 @@ module _ (c : Cache) (m : ℕ) (first : TailIdsRow) (tops : TopBlocks) (walk : T
 -- ===== the master =====
 
 module _ (n : ℕ) (c : Cache) where
-  pub read_early : (r : TailIds) → n ≤ c.zerostate_mc_seqno → r ≡ no_tails tails_given → r ≡ read_tails n c
+  pub read_early : (r : TailIds) → n ≤ c.zerostate_mc_seqno → r ≡ no_tails (Ok tt) → r ≡ read_tails n c
   unfolding read_tails
   read_early r h e = e ∙ rw (le-leb n c.zerostate_mc_seqno h)
 
   module _ (h : c.zerostate_mc_seqno < n) (a : MasterAt) (looked : a ≡ master_at n c.masters) (k : ℕ) where
-    read_late : (f : Place) → a.found ≡ f → tails_at (when_found f a.block) c ≡ read_tails n c
+    read_late : (f : Result ℕ ℕ) → a.found ≡ f → tails_at (when_found f a.block) c ≡ read_tails n c
     unfolding read_tails
     read_late f e =
-        ap (λ (x : Place). tails_at (when_found x a.block) c) (sym e) ∙ ap (λ (x : MasterAt). tails_at (answered_master x) c) looked
+        ap (λ (x : Result ℕ ℕ). tails_at (when_found x a.block) c) (sym e) ∙ ap (λ (x : MasterAt). tails_at (answered_master x) c) looked
         ∙ rw (lt-leb n c.zerostate_mc_seqno h)
 
-    pub read_vacant : a.found ≡ vacant_at k → (r : TailIds) → r ≡ no_tails (tails_refused 12) → r ≡ read_tails n c
-    read_vacant e r q = q ∙ read_late (vacant_at k) e
+    pub read_vacant : a.found ≡ Err k → (r : TailIds) → r ≡ no_tails (Err NoMaster) → r ≡ read_tails n c
+    read_vacant e r q = q ∙ read_late (Err k) e
 
-    pub read_found : a.found ≡ place_at k → (t : TailRows) → t ≡ block_tails a.block c → given_tails t ≡ read_tails n c
-    read_found e t q = ap given_tails q ∙ read_late (place_at k) e
+    pub read_found : a.found ≡ Ok k → (t : TailRows) → t ≡ block_tails a.block c → given_tails t ≡ read_tails n c
+    read_found e t q = ap given_tails q ∙ read_late (Ok k) e

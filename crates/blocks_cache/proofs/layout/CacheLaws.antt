@@ -1,35 +1,31 @@
 -- Packing a sound model and viewing it again gives the model; what a sound cache is; no_cache is not sound.
 -- Assumes nothing.
-use Rattle.std.proofs.Common.{◌≡◌, ℕ, zero, suc, ◌<◌, ◌≤◌, true, false, not, eqb, List, [], ◌∷◌, length, take, sym, refl, ap, ◌∙◌, subst, ap₂, le_refl, arith, le-ltb, lt-ltb, eq-eqb, eqb-true}
-use mathlib.Core.Option.{Option, none, some}
+use Rattle.block_records.specs.declared.range.AppliedRange.{AppliedRange}
+use Rattle.block_records.specs.declared.questions.Refusal.TheVariants.{SeqnoLimit, Unsound}
+use Rattle.std.specs.List.{list_all}
+use Rattle.std.specs.Prelude.{map, Err, Ok}
+use Rattle.std.proofs.Common.{◌≡◌, ℕ, zero, suc, ◌<◌, ◌≤◌, true, false, not, List, [], ◌∷◌, length, take, sym, refl, ap, ◌∙◌, subst, ap₂, le_refl, arith, le-ltb, lt-ltb}
 use Rattle.blocks_cache.specs.declared.cache.Cache.{Cache}
-use Rattle.blocks_cache.specs.declared.cache.NewCacheAnswer.TheVariants.{Made as made, Refused as refused_new}
 use Rattle.blocks_cache.specs.declared.cache.ShardGroup.{ShardGroup}
-use Rattle.blocks_cache.specs.declared.master_data.AppliedRange.{AppliedRange}
-use Rattle.blocks_cache.specs.declared.master_data.AppliedRange.TheVariants.{Absent as no_range, Over as range_over}
 use Rattle.blocks_cache.specs.declared.master_data.MasterData.{MasterData}
 use Rattle.blocks_group.specs.declared.group.MasterGroup.{MasterGroup}
 use Rattle.block_records.proofs.layout.EntryLaws.{take_padded}
-use Rattle.block_records.proofs.layout.EqualityLaws.{both_same, id_same, list_same, nat_same, pair_same, shard_same}
+use Rattle.block_records.proofs.layout.EqualityLaws.{both_same, id_same, list_same, nat_same, pair_same, shard_same, option_same}
 use Rattle.block_records.proofs.rules.ListLaws.{length_each}
-use Rattle.block_records.proofs.rules.Tests.{absurd_eq, and_intro, and_left, and_right, not_true, not_true_false}
+use Rattle.block_records.proofs.rules.Tests.{and_intro, and_left, and_right, not_true, not_true_false}
 use Rattle.block_records.specs.layout.Zeros.{zero_id}
 use Rattle.block_records.specs.rules.BlockId.{is_masterchain}
-use Rattle.block_records.specs.rules.Lists.{each, every, padded}
+use Rattle.block_records.specs.rules.Lists.{padded}
 use Rattle.block_records.specs.rules.Order.{IsSame}
-use Rattle.blocks_cache.specs.layout.Cache.{call_on, empty, no_cache, pack, pack_range, pack_shard, same_cache, same_data, same_range, same_shard_group, sound_cache, view, view_range, view_shard, zero_cache, zero_shard_group}
+use Rattle.blocks_cache.specs.layout.Cache.{call_on, empty, no_cache, pack, pack_shard, same_cache, same_data, same_range, same_seqnos, same_shard_group, sound_cache, view, view_shard, zero_cache, zero_shard_group}
 use Rattle.blocks_group.proofs.layout.GroupLaws.{group_same, master_group_same, take_padded_each, view_pack_group, view_pack_master_group}
 use Rattle.blocks_group.proofs.rules.GroupLaws.{shard_no_tops}
 use Rattle.blocks_group.specs.layout.Group.{zero_group, zero_master_group}
 use Rattle.blocks_group.specs.rules.Soundness.{of_shard, sound_group_model}
 use Rattle.cache_rules.proofs.SoundLaws.{parts, shard_parts}
 use Rattle.cache_rules.specs.Calls.{Call, refused}
-use Rattle.cache_rules.specs.Model.{Model, Range, ShardModel, empty_model}
+use Rattle.cache_rules.specs.Model.{Model, ShardModel, empty_model}
 use Rattle.cache_rules.specs.Refusals.{sound_model, sound_shard_model}
-
-pub view_pack_range : (o : Option Range) → view_range (pack_range o) ≡ o
-view_pack_range none = refl
-view_pack_range (some r) = refl
 
 view_pack_shard_group : (g : ShardModel) → sound_shard_model g ≡ true → view_shard (pack_shard g) ≡ g
 view_pack_shard_group g ok =
@@ -37,40 +33,31 @@ view_pack_shard_group g ok =
     let e = view_pack_group g.group (shard_no_tops g.shard side g.group.entries (shard_parts g ok).fit) in
     λ i. record { shard = g.shard; group = e i }
 
-view_pack_shard_groups : (gs : List ShardModel) → every sound_shard_model gs ≡ true → each view_shard (each pack_shard gs) ≡ gs
+view_pack_shard_groups : (gs : List ShardModel) → list_all sound_shard_model gs ≡ true → map view_shard (map pack_shard gs) ≡ gs
 view_pack_shard_groups [] ok = refl
 view_pack_shard_groups (g ∷ gs) ok =
-    ap₂ ◌∷◌ (view_pack_shard_group g (and_left (sound_shard_model g) (every sound_shard_model gs) ok)) (view_pack_shard_groups gs (and_right (sound_shard_model g) (every sound_shard_model gs) ok))
+    ap₂ ◌∷◌ (view_pack_shard_group g (and_left (sound_shard_model g) (list_all sound_shard_model gs) ok)) (view_pack_shard_groups gs (and_right (sound_shard_model g) (list_all sound_shard_model gs) ok))
 
 pub view_pack : (m : Model) → sound_model m ≡ true → view (pack m) ≡ m
 view_pack m ok =
     let a : take (length m.ids) (padded 32 zero_id m.ids) ≡ m.ids = take_padded 32 zero_id m.ids in
-    let b : each view_shard (take (length m.shards) (padded 8 zero_shard_group (each pack_shard m.shards))) ≡ m.shards =
-    ap (each view_shard) (take_padded_each 8 zero_shard_group pack_shard m.shards) ∙ view_pack_shard_groups m.shards (parts m ok).rest.shards.each_ok in
+    let b : map view_shard (take (length m.shards) (padded 8 zero_shard_group (map pack_shard m.shards))) ≡ m.shards =
+    ap (map view_shard) (take_padded_each 8 zero_shard_group pack_shard m.shards) ∙ view_pack_shard_groups m.shards (parts m ok).rest.shards.each_ok in
     let g = view_pack_master_group m.masters in
-    let r = view_pack_range m.range in
-    λ i. record { zerostate = m.zerostate; masters = g i; ids = a i; range = r i; shards = b i }
+    λ i. record { zerostate = m.zerostate; masters = g i; ids = a i; range = m.range; shards = b i }
 
 -- ===== equality =====
 
-range_eq : (a b : AppliedRange) → same_range a b ≡ true → a ≡ b
-range_eq no_range no_range e = refl
-range_eq no_range (range_over s t) e = absurd_eq e
-range_eq (range_over s t) no_range e = absurd_eq e
-range_eq (range_over s t) (range_over s' t') e =
-    ap₂ range_over (eqb-true s s' (and_left (eqb s s') (eqb t t') e)) (eqb-true t t' (and_right (eqb s s') (eqb t t') e))
-
-range_refl : (a : AppliedRange) → same_range a a ≡ true
-range_refl no_range = refl
-range_refl (range_over s t) = and_intro (eq-eqb s s refl) (eq-eqb t t refl)
+seqnos_same : IsSame same_seqnos
+seqnos_same = both_same (λ (r : AppliedRange). r.start) (λ (r : AppliedRange). r.end) (λ a b p q. λ i. record { start = p i; end = q i }) nat_same nat_same
 
 pub range_same : IsSame same_range
-range_same = record { same_eq = range_eq; same_refl = range_refl }
+range_same = option_same same_seqnos seqnos_same
 
 data_same : IsSame same_data
 unfolding same_data
 data_same =
-    both_same (λ (d : MasterData). d.count) (λ (d : MasterData). (d.range, d.ids)) (λ a b p q. λ i. record { ids = (q i).1; count = p i; range = (q i).0 })
+    both_same (λ (d : MasterData). d.ids.count) (λ (d : MasterData). (d.range, d.ids.items)) (λ a b p q. λ i. record { ids = record { count = p i; items = (q i).1 }; range = (q i).0 })
     nat_same (pair_same range_same (list_same id_same))
 
 shard_group_same : IsSame same_shard_group
@@ -115,7 +102,7 @@ pub count_unsound : (c : Cache) → length c.shards < c.shard_count → sound_ca
 count_unsound c l =
     not_true_false (sound_cache c)
     (λ h.
-    let e : c.shard_count ≡ length (each view_shard (take c.shard_count c.shards)) = ap (λ (x : Cache). x.shard_count) (sound_cache_packed c h).0 in
+    let e : c.shard_count ≡ length (map view_shard (take c.shard_count c.shards)) = ap (λ (x : Cache). x.shard_count) (sound_cache_packed c h).0 in
     absurd (omega (arith, e, length_each view_shard (take c.shard_count c.shards), take_at_most c.shard_count c.shards)))
 
 pub no_cache_unsound : sound_cache no_cache ≡ false
@@ -123,7 +110,7 @@ unfolding zero_cache
 no_cache_unsound = count_unsound no_cache (le_refl 9)
 
 -- every call on it answers 1
-pub no_cache_refuses : (call : Call) → call_on no_cache call ≡ record { cache = no_cache; answer = refused 1; slice = call.lent }
+pub no_cache_refuses : (call : Call) → call_on no_cache call ≡ record { cache = no_cache; answer = refused Unsound; slice = call.lent }
 unfolding call_on
 no_cache_refuses call = rw no_cache_unsound
 
@@ -132,8 +119,8 @@ pub pack_empty : (zerostate : ℕ) → pack (empty_model zerostate) ≡ zero_cac
 unfolding padded zero_cache zero_master_group zero_group
 pack_empty zerostate = refl
 
-pub empty_made : (zerostate : ℕ) (c : Cache) → c ≡ zero_cache zerostate 0 → zerostate < 4294967295 → record { answer = made; cache = c } ≡ empty zerostate
+pub empty_made : (zerostate : ℕ) (c : Cache) → c ≡ zero_cache zerostate 0 → zerostate < 4294967295 → record { answer = Ok tt; cache = c } ≡ empty zerostate
 empty_made zerostate c e l = rw (e, lt-ltb zerostate 4294967295 l, pack_empty zerostate)
 
-pub empty_refused : (zerostate : ℕ) (c : Cache) → c ≡ zero_cache 0 9 → 4294967295 ≤ zerostate → record { answer = refused_new 2; cache = c } ≡ empty zerostate
+pub empty_refused : (zerostate : ℕ) (c : Cache) → c ≡ zero_cache 0 9 → 4294967295 ≤ zerostate → record { answer = Err SeqnoLimit; cache = c } ≡ empty zerostate
 empty_refused zerostate c e l = rw (e, le-ltb zerostate 4294967295 l)

@@ -1,7 +1,8 @@
 -- A call on a sound cache is the rules' call, packed; its questions in two parts, those of the record itself and the rest.
 -- Assumes nothing.
-use Rattle.std.proofs.Common.{◌≡◌, ℕ, true, List, ◌++◌, length, sym, refl, ap, ◌∙◌}
-use mathlib.Core.Option.{Option, none, some}
+use Rattle.block_records.specs.declared.questions.Refusal.{Refusal}
+use Rattle.std.specs.Prelude.{Option, None, Some}
+use Rattle.std.proofs.Common.{◌≡◌, true, List, ◌++◌, length, sym, refl, ap, ◌∙◌}
 use Rattle.blocks_cache.specs.declared.cache.Cache.{Cache}
 use Rattle.block_records.proofs.layout.QuestionLaws.{first_no_append, or_else}
 use Rattle.block_records.specs.rules.Questions.{Question, first_no}
@@ -20,9 +21,9 @@ module _ (m : Model) (call : Call) (ok : sound_model m ≡ true) where
       let v = view_pack m ok in
       rw (pack_sound m ok, ok) (ap (λ (x : Model). first_no (further x (length call.lent) call.request)) v)
 
-  answered_same : (o : Option ℕ) → answered_on o (pack m) call ≡ pack_outcome (answered o m call)
-  answered_same none = ap (λ (x : Model). pack_outcome (outcome_of (effect x call.request) call.lent)) (view_pack m ok)
-  answered_same (some k) = refl
+  answered_same : (o : Option Refusal) → answered_on o (pack m) call ≡ pack_outcome (answered o m call)
+  answered_same None = ap (λ (x : Model). pack_outcome (outcome_of (effect x call.request) call.lent)) (view_pack m ok)
+  answered_same (Some k) = refl
 
   pub call_packed : call_on (pack m) call ≡ pack_outcome (step m call)
   unfolding call_on step
@@ -36,14 +37,14 @@ module _ (c : Cache) (call : Call) (ok : sound_cache c ≡ true) (own rest : Lis
   asked = rw ok (ap first_no split ∙ first_no_append own rest)
 
   -- a no in the first part leaves cache and slice
-  pub first_part_refuses : (n : ℕ) → first_no own ≡ some n → call_on c call ≡ record { cache = c; answer = refused n; slice = call.lent }
+  pub first_part_refuses : (n : Refusal) → first_no own ≡ Some n → call_on c call ≡ record { cache = c; answer = refused n; slice = call.lent }
   unfolding call_on
-  first_part_refuses n h = ap (λ (o : Option ℕ). answered_on o c call) (asked ∙ ap (λ (o : Option ℕ). or_else o (first_no rest)) h)
+  first_part_refuses n h = ap (λ (o : Option Refusal). answered_on o c call) (asked ∙ ap (λ (o : Option Refusal). or_else o (first_no rest)) h)
 
   -- else the second part decides
-  pub second_part_decides : first_no own ≡ none → call_on c call ≡ answered_on (first_no rest) c call
+  pub second_part_decides : first_no own ≡ None → call_on c call ≡ answered_on (first_no rest) c call
   unfolding call_on
-  second_part_decides h = ap (λ (o : Option ℕ). answered_on o c call) (asked ∙ ap (λ (o : Option ℕ). or_else o (first_no rest)) h)
+  second_part_decides h = ap (λ (o : Option Refusal). answered_on o c call) (asked ∙ ap (λ (o : Option Refusal). or_else o (first_no rest)) h)
 
 -- What a function makes of a cache is the rules' answer on every sound cache, if it is on every packed one.
 pub on_sound : (call : Call) (f : Cache → HeldOutcome) (rest : Model → List Question) →

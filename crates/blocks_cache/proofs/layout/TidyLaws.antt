@@ -1,12 +1,15 @@
 -- A cache is tidy exactly if its counts are within their places, its groups are tidy, and zeros stand in unused places: question 1 group by
 -- group, each by the length of its own array, as the code asks it.
 -- Assumes nothing.
-use Rattle.std.proofs.Common.{◌≡◌, Bool, true, ◌&&◌, eqb, leb, List, length, take, drop, refl, ap, ◌∙◌, ap₂}
+use Rattle.block_records.specs.layout.Listed.{packed}
+use Rattle.block_records.specs.declared.range.AppliedRange.{AppliedRange}
+use lib.Pointwise.{pointwise}
+use Rattle.std.specs.List.{list_all}
+use Rattle.std.specs.Prelude.{map, Option}
+use Rattle.std.proofs.Common.{◌≡◌, Bool, true, ◌&&◌, eqb, leb, List, length, take, drop, ap, ◌∙◌, ap₂}
 use Rattle.block_records.specs.declared.block_id.BlockId.{BlockId}
 use Rattle.blocks_cache.specs.declared.cache.Cache.{Cache}
 use Rattle.blocks_cache.specs.declared.cache.ShardGroup.{ShardGroup}
-use Rattle.blocks_cache.specs.declared.master_data.AppliedRange.{AppliedRange}
-use Rattle.blocks_cache.specs.declared.master_data.AppliedRange.TheVariants.{Absent as no_range, Over as range_over}
 use Rattle.blocks_cache.specs.declared.master_data.MasterData.{MasterData}
 use Rattle.block_records.proofs.arrays.ArrayLaws.{each_each}
 use Rattle.block_records.proofs.layout.EqualityLaws.{id_same, nat_same, shard_same}
@@ -14,17 +17,13 @@ use Rattle.block_records.proofs.layout.TidyLaws.{count_take, every_same, same_pa
 use Rattle.block_records.proofs.rules.ListLaws.{length_each}
 use Rattle.block_records.specs.layout.Zeros.{zero_id}
 use Rattle.block_records.specs.rules.BlockId.{same_id}
-use Rattle.block_records.specs.rules.Lists.{each, every, padded, same_list}
+use Rattle.block_records.specs.rules.Lists.{padded}
 use Rattle.blocks_cache.proofs.layout.CacheLaws.{range_same}
-use Rattle.blocks_cache.specs.layout.Cache.{cache_tidy, pack_range, pack_shard, same_cache, same_data, same_range, same_shard_group, view_range, view_shard, zero_shard_group}
+use Rattle.blocks_cache.specs.layout.Cache.{cache_tidy, pack_shard, same_cache, same_data, same_range, same_shard_group, view_shard, zero_shard_group}
 use Rattle.blocks_group.specs.layout.Group.{group_tidy, master_group_tidy}
 
-pack_view_range : (r : AppliedRange) → pack_range (view_range r) ≡ r
-pack_view_range no_range = refl
-pack_view_range (range_over s e) = refl
-
-same_range_self : (r : AppliedRange) → same_range r (pack_range (view_range r)) ≡ true
-same_range_self r = rw (pack_view_range r) (range_same.same_refl r)
+same_range_self : (r : Option AppliedRange) → same_range r r ≡ true
+same_range_self r = range_same.same_refl r
 
 abbrev shard_anew : ShardGroup → ShardGroup
 shard_anew g = pack_shard (view_shard g)
@@ -34,27 +33,27 @@ unfolding same_shard_group
 shard_tidy_is g = rw (shard_same.same_refl g.shard)
 
 abbrev pub data_tidy : MasterData → Bool
-data_tidy d = leb d.count 32 && every (λ (i : BlockId). same_id i zero_id) (drop d.count d.ids)
+data_tidy d = leb d.ids.count 32 && list_all (λ (i : BlockId). same_id i zero_id) (drop d.ids.count d.ids.items)
 
-data_tidy_is : (d : MasterData) → length d.ids ≡ 32 →
-    same_data d (record { ids = padded 32 zero_id (take d.count d.ids); count = length (take d.count d.ids); range = pack_range (view_range d.range) }) ≡ data_tidy d
+data_tidy_is : (d : MasterData) → length d.ids.items ≡ 32 →
+    same_data d (record { ids = packed 32 zero_id (take d.ids.count d.ids.items); range = d.range }) ≡ data_tidy d
 unfolding same_data
 data_tidy_is d l =
     rw (same_range_self d.range)
-    (ap₂ ◌&&◌ (count_take d.count d.ids ∙ ap (leb d.count) l) (same_padded_plain same_id id_same zero_id 32 d.count d.ids l))
+    (ap₂ ◌&&◌ (count_take d.ids.count d.ids.items ∙ ap (leb d.ids.count) l) (same_padded_plain same_id id_same zero_id 32 d.ids.count d.ids.items l))
 
-pub cache_tidy_is : (c : Cache) → length c.«data».ids ≡ 32 → length c.shards ≡ 8 →
+pub cache_tidy_is : (c : Cache) → length c.«data».ids.items ≡ 32 → length c.shards ≡ 8 →
     cache_tidy c
     ≡ leb c.shard_count 8 && (data_tidy c.«data» && (master_group_tidy c.masters
-    && (every (λ (g : ShardGroup). group_tidy g.group) (take c.shard_count c.shards)
-    && every (λ (g : ShardGroup). same_shard_group g zero_shard_group) (drop c.shard_count c.shards))))
+    && (list_all (λ (g : ShardGroup). group_tidy g.group) (take c.shard_count c.shards)
+    && list_all (λ (g : ShardGroup). same_shard_group g zero_shard_group) (drop c.shard_count c.shards))))
 unfolding same_cache
 cache_tidy_is c zi zs =
     let n = c.shard_count in
     let gs = c.shards in
-    let a : eqb n (length (each view_shard (take n gs))) ≡ leb n 8 = ap (eqb n) (length_each view_shard (take n gs)) ∙ count_take n gs ∙ ap (leb n) zs in
-    let b = ap (λ (r : List ShardGroup). same_list same_shard_group gs (padded 8 zero_shard_group r)) (each_each pack_shard view_shard (take n gs)) ∙ same_padded same_shard_group shard_anew zero_shard_group 8 n gs zs in
-    let d : every (λ (g : ShardGroup). same_shard_group g (shard_anew g)) (take n gs) ≡ every (λ (g : ShardGroup). group_tidy g.group) (take n gs) =
+    let a : eqb n (length (map view_shard (take n gs))) ≡ leb n 8 = ap (eqb n) (length_each view_shard (take n gs)) ∙ count_take n gs ∙ ap (leb n) zs in
+    let b = ap (λ (r : List ShardGroup). pointwise same_shard_group gs (padded 8 zero_shard_group r)) (each_each pack_shard view_shard (take n gs)) ∙ same_padded same_shard_group shard_anew zero_shard_group 8 n gs zs in
+    let d : list_all (λ (g : ShardGroup). same_shard_group g (shard_anew g)) (take n gs) ≡ list_all (λ (g : ShardGroup). group_tidy g.group) (take n gs) =
     every_same (λ (g : ShardGroup). same_shard_group g (shard_anew g)) (λ (g : ShardGroup). group_tidy g.group) (take n gs) (λ g u. shard_tidy_is g) in
     rw (nat_same.same_refl c.zerostate_mc_seqno)
-    (ap₂ ◌&&◌ a (ap₂ ◌&&◌ (data_tidy_is c.«data» zi) (ap (λ (t : Bool). master_group_tidy c.masters && t) (b ∙ ap (λ (t : Bool). t && every (λ (g : ShardGroup). same_shard_group g zero_shard_group) (drop n gs)) d))))
+    (ap₂ ◌&&◌ a (ap₂ ◌&&◌ (data_tidy_is c.«data» zi) (ap (λ (t : Bool). master_group_tidy c.masters && t) (b ∙ ap (λ (t : Bool). t && list_all (λ (g : ShardGroup). same_shard_group g zero_shard_group) (drop n gs)) d))))

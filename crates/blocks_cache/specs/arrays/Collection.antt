@@ -1,25 +1,19 @@
 -- RULES.md, Boundary and collection and Removal of collated blocks: what the code does to a cache as it is held, for every cache, sound or not, and
 -- what its answer says. On a packed cache this is the rule, packed (proofs/arrays/CollectionLaws).
 -- Assumes nothing.
-use Rattle.std.specs.Prelude.{ℕ, zero, suc, List, [], ◌∷◌, slice_index_or, slice_set}
-use Rattle.std.proofs.Math.Option.{Option, none, some}
+use Rattle.block_records.specs.declared.questions.Refusal.TheVariants.{Unsound}
+use Rattle.std.specs.Prelude.{ℕ, zero, suc, List, [], ◌∷◌, slice_index_or, slice_set, Option, None, Some, cond, Err, Ok, Result, Result, Ok, Err, ⊤}
 use Rattle.block_records.specs.declared.block_id.BlockIdShort.{BlockIdShort}
 use Rattle.block_records.specs.declared.block_id.ShardIdent.{ShardIdent}
-use Rattle.block_records.specs.declared.place.Place.{Place}
-use Rattle.block_records.specs.declared.place.Place.TheVariants.{At as place_at, Vacant as vacant_at}
-use Rattle.block_records.specs.declared.store_records.Keys.{Keys}
+use Rattle.block_records.specs.layout.Listed.{Keys}
 use Rattle.blocks_cache.specs.declared.cache.Cache.{Cache}
 use Rattle.blocks_cache.specs.declared.cache.ShardGroup.{ShardGroup}
 use Rattle.blocks_cache.specs.declared.collection.CacheChange.{CacheChange}
-use Rattle.blocks_cache.specs.declared.collection.ChangeAnswer.{ChangeAnswer}
-use Rattle.blocks_cache.specs.declared.collection.ChangeAnswer.TheVariants.{Done as change_done, Refused as change_refused}
+use Rattle.block_records.specs.declared.questions.Refusal.{Refusal}
 use Rattle.blocks_cache.specs.declared.master_data.MasterData.{MasterData}
 use Rattle.blocks_group.specs.declared.group.Group.{Group}
-use Rattle.blocks_group.specs.declared.queries.SeqnoOption.{SeqnoOption}
-use Rattle.blocks_group.specs.declared.queries.SeqnoOption.TheVariants.{Absent as no_seqno, At as seqno_at}
 use Rattle.block_records.specs.rules.BlockId.{is_masterchain, key_shard}
-use Rattle.block_records.specs.rules.Lists.{pick}
-use Rattle.block_records.specs.rules.Questions.{ask, first_no, keys_questions}
+use Rattle.block_records.specs.rules.Questions.{passed, ask, first_no, keys_questions}
 use Rattle.blocks_cache.specs.arrays.Cache.{with_master_data, with_master_group, with_shard_groups}
 use Rattle.blocks_cache.specs.arrays.MasterData.{drop_ids_below, drop_ids_from}
 use Rattle.blocks_cache.specs.arrays.Shards.{shard_place}
@@ -30,10 +24,10 @@ use Rattle.cache_rules.specs.Calls.{Answer, done, refused}
 
 -- ===== what an answer says =====
 
--- done, or the number of the refusal
-abbrev pub change_says : ChangeAnswer → Answer
-change_says change_done = done
-change_says (change_refused n) = refused n
+-- done, or the refusal
+abbrev pub change_says : Result ⊤ Refusal → Answer
+change_says (Ok x) = done
+change_says (Err r) = refused r
 
 -- answer and cache; no slice is lent
 abbrev pub change_outcome : CacheChange → HeldOutcome
@@ -41,16 +35,11 @@ change_outcome r = record { cache = r.cache; answer = change_says r.answer; slic
 
 -- done, and the cache left
 abbrev pub done_with : Cache → CacheChange
-done_with c = record { answer = change_done; cache = c }
-
--- refused by a number, or done
-abbrev pub pack_change : Option ℕ → ChangeAnswer
-pack_change none = change_done
-pack_change (some n) = change_refused n
+done_with c = record { answer = Ok tt; cache = c }
 
 -- question 1, then those of the keys
-abbrev pub keys_answer : Keys → Cache → ChangeAnswer
-keys_answer ks c = pack_change (first_no (ask 1 (sound_cache c) ∷ keys_questions ks))
+abbrev pub keys_answer : Keys → Cache → Result ⊤ Refusal
+keys_answer ks c = passed (first_no (ask Unsound (sound_cache c) ∷ keys_questions ks))
 
 -- ===== a change of the group of one shard =====
 
@@ -59,9 +48,9 @@ abbrev pub with_group_at : ℕ → Group → List ShardGroup → List ShardGroup
 with_group_at k g gs = slice_set gs k (record { shard = (slice_index_or gs k zero_shard_group).shard; group = g })
 
 -- a change of the group at a place; none where the place is vacant
-abbrev pub on_place : (Group → Group) → Place → List ShardGroup → List ShardGroup
-on_place f (place_at k) gs = with_group_at k (f (slice_index_or gs k zero_shard_group).group) gs
-on_place f (vacant_at k) gs = gs
+abbrev pub on_place : (Group → Group) → Result ℕ ℕ → List ShardGroup → List ShardGroup
+on_place f (Ok k) gs = with_group_at k (f (slice_index_or gs k zero_shard_group).group) gs
+on_place f (Err k) gs = gs
 
 -- a change of the shard's group, if it has one
 abbrev pub on_shard_group : ShardIdent → (Group → Group) → Cache → Cache
@@ -72,14 +61,14 @@ on_shard_group s f c = with_shard_groups (on_place f (shard_place s c.shard_coun
 -- a key becomes the boundary of its shard's group, if there is such a group
 unfoldable pub held_bound_one : Cache → BlockIdShort → Cache
 held_bound_one c k =
-    pick (is_masterchain (key_shard k)) (with_master_group (set_master_boundary k c.masters) c) (on_shard_group (key_shard k) (set_group_boundary k) c)
+    cond (is_masterchain (key_shard k)) (with_master_group (set_master_boundary k c.masters) c) (on_shard_group (key_shard k) (set_group_boundary k) c)
 
 -- ===== collect =====
 
 -- by the highest collected master: the ids below it are dropped
-abbrev pub drop_collected : SeqnoOption → MasterData → MasterData
-drop_collected no_seqno d = d
-drop_collected (seqno_at n) d = drop_ids_below n d
+abbrev pub drop_collected : Option ℕ → MasterData → MasterData
+drop_collected None d = d
+drop_collected (Some n) d = drop_ids_below n d
 
 -- a shard's group after its collection
 abbrev pub collect_shard_group : ShardGroup → ShardGroup
@@ -105,9 +94,9 @@ held_collect c =
 -- ===== remove next collated =====
 
 -- by the lowest removed master: the ids from its seqno on are dropped
-abbrev pub drop_removed : SeqnoOption → MasterData → MasterData
-drop_removed no_seqno d = d
-drop_removed (seqno_at n) d = drop_ids_from n d
+abbrev pub drop_removed : Option ℕ → MasterData → MasterData
+drop_removed None d = d
+drop_removed (Some n) d = drop_ids_from n d
 
 -- the masters above a seqno that are not Received are removed, and ids are dropped by them; the range stays
 abbrev pub held_remove_masters : ℕ → Cache → Cache
@@ -117,4 +106,4 @@ held_remove_masters n c =
 -- of a key's group, if there is one, the entries above the key's seqno that are not Received are removed
 unfoldable pub held_remove_one : Cache → BlockIdShort → Cache
 held_remove_one c k =
-    pick (is_masterchain (key_shard k)) (held_remove_masters k.seqno c) (on_shard_group (key_shard k) (remove_collated_above k.seqno) c)
+    cond (is_masterchain (key_shard k)) (held_remove_masters k.seqno c) (on_shard_group (key_shard k) (remove_collated_above k.seqno) c)

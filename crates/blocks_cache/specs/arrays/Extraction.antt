@@ -1,11 +1,11 @@
 -- RULES.md, Extraction: what it does to the arrays, for every input: the groups are looked up by their entries' seqnos, and moved together once at
 -- the end. On a sound cache that is the rule, packed (proofs/arrays/ExtractionRun).
 -- Assumes nothing.
-use Rattle.std.specs.Prelude.{ℕ, Bool, false, List, [], ◌∷◌, ◌++◌, length, slice_set}
+use Rattle.std.specs.Prelude.{ℕ, Bool, false, List, [], ◌∷◌, ◌++◌, length, slice_set, map, filter}
 use Rattle.block_records.specs.declared.block_id.BlockId.{BlockId}
 use Rattle.block_records.specs.declared.entry.MasterBlock.{MasterBlock}
 use Rattle.block_records.specs.declared.top_block.TopBlock.{TopBlock}
-use Rattle.block_records.specs.declared.top_block.TopBlocks.{TopBlocks}
+use Rattle.block_records.specs.layout.Listed.{TopBlocks}
 use Rattle.blocks_cache.specs.declared.cache.ShardGroup.{ShardGroup}
 use Rattle.blocks_cache.specs.declared.extraction.Extraction.{Extraction}
 use Rattle.blocks_cache.specs.declared.extraction.WaitingList.{WaitingList}
@@ -18,9 +18,8 @@ use Rattle.block_records.specs.layout.Zeros.{zero_entry, zero_id}
 use Rattle.block_records.specs.rules.BlockId.{listed_tops}
 use Rattle.block_records.specs.rules.Entry.{Entry}
 use Rattle.block_records.specs.rules.Limits.{entries_limit, shards_limit, slice_places, waiting_places}
-use Rattle.block_records.specs.rules.Lists.{each, padded, select}
+use Rattle.block_records.specs.rules.Lists.{padded}
 use Rattle.blocks_cache.specs.layout.Cache.{pack_shard, zero_shard_group}
-use Rattle.blocks_group.specs.layout.Group.{pack_mark, view_mark}
 use Rattle.blocks_group.specs.rules.Group.{refreshed_mark}
 use Rattle.cache_rules.specs.Extraction.{Walk, starts, top_id}
 
@@ -32,11 +31,11 @@ view_master b = view_entry b.entry (listed_tops b.tops)
 
 -- the listed top items from which extraction starts
 abbrev pub held_starting_items : ℕ → TopBlocks → List TopBlock
-held_starting_items zerostate t = select (starts zerostate) (listed_tops t)
+held_starting_items zerostate t = filter (starts zerostate) (listed_tops t)
 
 -- their ids
 abbrev pub held_starting_ids : ℕ → TopBlocks → List BlockId
-held_starting_ids zerostate t = each top_id (held_starting_items zerostate t)
+held_starting_ids zerostate t = map top_id (held_starting_items zerostate t)
 
 -- these ids wait
 abbrev pub pack_waiting : List BlockId → WaitingList
@@ -54,7 +53,7 @@ without_seqno at n g = record { entries = slice_set g.entries at (seqno_gone n);
 
 -- the group's mark refreshed by a seqno
 abbrev pub refresh_seqnos : ℕ → GroupSeqnos → GroupSeqnos
-refresh_seqnos n g = record { entries = g.entries; mark = pack_mark (refreshed_mark n (view_mark g.mark)) }
+refresh_seqnos n g = record { entries = g.entries; mark = refreshed_mark n g.mark }
 
 -- ===== what is left, and what joined =====
 
@@ -64,7 +63,7 @@ is_cached x = x.cached
 
 -- the entries that are still cached
 abbrev pub still_cached : {A : Type 0} → List EntrySeqno → List A → List A
-still_cached ks xs = flagged (each is_cached ks) xs
+still_cached ks xs = flagged (map is_cached ks) xs
 
 -- a group with the entries that are left moved together, zeros after them, and the mark of the gathered seqnos
 abbrev pub compact_group : Group → GroupSeqnos → Group
@@ -95,8 +94,8 @@ backwards (x ∷ xs) = backwards xs ++ (x ∷ [])
 unfoldable pub pack_extraction : Walk → Extraction
 pack_extraction w =
     record {
-      shards = padded shards_limit zero_shard_group (each pack_shard w.shards);
-      blocks = padded slice_places zero_entry (each pack_entry w.joined);
+      shards = padded shards_limit zero_shard_group (map pack_shard w.shards);
+      blocks = padded slice_places zero_entry (map pack_entry w.joined);
       joined = length w.joined;
       taken = w.taken;
     }

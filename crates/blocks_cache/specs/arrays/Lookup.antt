@@ -1,26 +1,20 @@
 -- RULES.md, How it is held: the shard block that is cached under a shard and seqno, in the arrays, for every cache, sound or not. On a packed cache
 -- it is the one that the rules look up, packed (proofs/arrays/LookupLaws).
 -- Assumes nothing.
-use Rattle.std.specs.Prelude.{ℕ, Bool, true, false, ◌&&◌, List, get_or, replicate, ◌==◌, slice_index_or}
-use Rattle.std.proofs.Math.Option.{Option, none, some}
+use Rattle.std.specs.Prelude.{ℕ, Bool, true, false, ◌&&◌, List, get_or, replicate, ◌==◌, slice_index_or, Option, None, Some, map, Err, Ok, Result}
 use Rattle.block_records.specs.declared.block_id.BlockId.{BlockId}
 use Rattle.block_records.specs.declared.block_id.ShardIdent.{ShardIdent}
 use Rattle.block_records.specs.declared.entry.BlockCacheEntry.{BlockCacheEntry}
-use Rattle.block_records.specs.declared.place.Place.{Place}
-use Rattle.block_records.specs.declared.place.Place.TheVariants.{At as place_at, Vacant as vacant_at}
 use Rattle.blocks_cache.specs.declared.cache.Cache.{Cache}
 use Rattle.blocks_cache.specs.declared.cache.ShardGroup.{ShardGroup}
-use Rattle.blocks_cache.specs.declared.lookup.BlockPlace.{BlockPlace}
-use Rattle.blocks_cache.specs.declared.lookup.BlockPlace.TheVariants.{Absent as block_absent, At as block_found}
 use Rattle.blocks_cache.specs.declared.lookup.EntrySeqno.{EntrySeqno}
 use Rattle.blocks_cache.specs.declared.lookup.GroupSeqnos.{GroupSeqnos}
 use Rattle.blocks_group.specs.declared.group.Group.{Group}
-use Rattle.blocks_group.specs.declared.mark.Mark.TheVariants.{Absent as no_mark}
 use Rattle.block_records.specs.arrays.Place.{first_place}
 use Rattle.block_records.specs.layout.Zeros.{zero_entry}
 use Rattle.block_records.specs.rules.BlockId.{id_shard}
 use Rattle.block_records.specs.rules.Limits.{entries_limit}
-use Rattle.block_records.specs.rules.Lists.{each, padded}
+use Rattle.block_records.specs.rules.Lists.{padded}
 use Rattle.blocks_cache.specs.arrays.Shards.{ident_at, shard_ident}
 use Rattle.blocks_cache.specs.layout.Cache.{zero_shard_group}
 use Rattle.blocks_group.specs.arrays.Group.{held_seqno, listed_entries}
@@ -37,11 +31,11 @@ seqno_here b = record { seqno = held_seqno b; cached = true }
 
 -- of the listed entries; none in the places after them
 abbrev pub group_seqnos : Group → GroupSeqnos
-group_seqnos g = record { entries = padded entries_limit no_seqno_here (each seqno_here (listed_entries g)); mark = g.mark }
+group_seqnos g = record { entries = padded entries_limit no_seqno_here (map seqno_here (listed_entries g)); mark = g.mark }
 
 -- of no group
 unfoldable pub no_seqnos : GroupSeqnos
-no_seqnos = record { entries = replicate entries_limit no_seqno_here; mark = no_mark }
+no_seqnos = record { entries = replicate entries_limit no_seqno_here; mark = None }
 
 -- of a shard's group
 abbrev pub shard_seqnos : ShardGroup → GroupSeqnos
@@ -54,32 +48,32 @@ abbrev pub cached_at : ℕ → EntrySeqno → Bool
 cached_at n x = x.cached && x.seqno == n
 
 -- the first place of a shard among those of the groups
-abbrev pub first_ident_place : ShardIdent → List ShardIdent → Place
+abbrev pub first_ident_place : ShardIdent → List ShardIdent → Result ℕ ℕ
 first_ident_place s idents = first_place (ident_at s) 0 idents
 
 -- the first place of an entry of a seqno that is still cached
-abbrev pub first_seqno_place : ℕ → GroupSeqnos → Place
+abbrev pub first_seqno_place : ℕ → GroupSeqnos → Result ℕ ℕ
 first_seqno_place n g = first_place (cached_at n) 0 g.entries
 
 -- in the group at place k
-abbrev pub place_in : ℕ → Place → BlockPlace
-place_in k (place_at j) = block_found k j
-place_in k (vacant_at j) = block_absent
+abbrev pub place_in : ℕ → Result ℕ ℕ → Option (ℕ × ℕ)
+place_in k (Ok j) = Some (k, j)
+place_in k (Err j) = None
 
 -- by where the id's shard stands
-abbrev pub place_of : BlockId → List GroupSeqnos → Place → BlockPlace
-place_of i seqnos (place_at k) = place_in k (first_seqno_place i.seqno (slice_index_or seqnos k no_seqnos))
-place_of i seqnos (vacant_at k) = block_absent
+abbrev pub place_of : BlockId → List GroupSeqnos → Result ℕ ℕ → Option (ℕ × ℕ)
+place_of i seqnos (Ok k) = place_in k (first_seqno_place i.seqno (slice_index_or seqnos k no_seqnos))
+place_of i seqnos (Err k) = None
 
 -- the place of the block under an id's key; the hashes are not looked at
-unfoldable pub block_place : BlockId → List ShardIdent → List GroupSeqnos → BlockPlace
+unfoldable pub block_place : BlockId → List ShardIdent → List GroupSeqnos → Option (ℕ × ℕ)
 block_place i idents seqnos = place_of i seqnos (first_ident_place (id_shard i) idents)
 
 -- the block of a place
-abbrev pub placed_block : BlockPlace → List ShardGroup → Option BlockCacheEntry
-placed_block (block_found k j) gs = some (slice_index_or (get_or gs k zero_shard_group).group.entries j zero_entry)
-placed_block block_absent gs = none
+abbrev pub placed_block : Option (ℕ × ℕ) → List ShardGroup → Option BlockCacheEntry
+placed_block (Some (k, j)) gs = Some (slice_index_or (get_or gs k zero_shard_group).group.entries j zero_entry)
+placed_block None gs = None
 
 -- among the groups of a cache
 unfoldable pub cached_block : BlockId → Cache → Option BlockCacheEntry
-cached_block i c = placed_block (block_place i (each shard_ident c.shards) (each shard_seqnos c.shards)) c.shards
+cached_block i c = placed_block (block_place i (map shard_ident c.shards) (map shard_seqnos c.shards)) c.shards

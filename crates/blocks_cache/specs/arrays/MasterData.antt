@@ -1,27 +1,25 @@
 -- What the code does to the master data's arrays, for every input, sound or not. It goes by what is listed; the result has zeros in the places
 -- that are left. On packed data this is the rule of the model, packed (proofs/arrays/MasterDataLaws).
 -- Assumes nothing.
-use Rattle.std.specs.Prelude.{ℕ, Bool, true, false, ◌||◌, List, length, take, ◌==◌, nat_le, nat_lt}
-use Rattle.std.proofs.Math.Option.{Option, none, some}
+use Rattle.std.specs.List.{list_any}
+use Rattle.std.specs.Prelude.{ℕ, Bool, ◌||◌, List, length, take, ◌==◌, nat_le, nat_lt, Option, cond}
 use Rattle.block_records.specs.declared.block_id.BlockId.{BlockId}
-use Rattle.blocks_cache.specs.declared.master_data.LastId.{LastId}
 use Rattle.blocks_cache.specs.declared.master_data.MasterData.{MasterData}
-use Rattle.blocks_cache.specs.declared.master_data.RetainedIds.{RetainedIds}
-use Rattle.blocks_cache.specs.declared.master_data.RetainedIds.TheVariants.{Below as retain_ids_below, From as retain_ids_from}
 use Rattle.block_records.specs.layout.Zeros.{zero_id}
 use Rattle.block_records.specs.rules.Limits.{ids_limit}
-use Rattle.block_records.specs.rules.Lists.{find, last, padded, pick, present, put, select}
+use Rattle.block_records.specs.layout.Listed.{packed}
+use Rattle.block_records.specs.rules.Lists.{last, put}
 use Rattle.cache_rules.specs.Model.{id_before, ids_below, ids_from}
 
 -- ===== what is listed =====
 
 -- the ids below the count; a count past the 32 places lists them all
 abbrev pub listed_ids : MasterData → List BlockId
-listed_ids d = take d.count d.ids
+listed_ids d = take d.ids.count d.ids.items
 
 -- these ids, and zeros after them
 abbrev pub with_ids : List BlockId → MasterData → MasterData
-with_ids ids d = record { ids = padded ids_limit zero_id ids; count = length ids; range = d.range }
+with_ids ids d = record { ids = packed ids_limit zero_id ids; range = d.range }
 
 -- ===== an id put in by seqno =====
 
@@ -35,18 +33,9 @@ id_at n i = i.seqno == n
 
 -- one of the same seqno is replaced; nothing changes where they would be more than 32
 abbrev pub put_id : BlockId → MasterData → MasterData
-put_id i d = pick (nat_le (length (put id_before i (listed_ids d))) ids_limit) (with_ids (put id_before i (listed_ids d)) d) d
+put_id i d = cond (nat_le (length (put id_before i (listed_ids d))) ids_limit) (with_ids (put id_before i (listed_ids d)) d) d
 
 -- ===== ids that go =====
-
--- the ids that stay: from a seqno on; below a seqno
-abbrev pub retains_id : RetainedIds → BlockId → Bool
-retains_id (retain_ids_from n) i = nat_le n i.seqno
-retains_id (retain_ids_below n) i = nat_lt i.seqno n
-
--- the listed ids that stay
-abbrev pub retain_ids : RetainedIds → MasterData → MasterData
-retain_ids r d = with_ids (select (retains_id r) (listed_ids d)) d
 
 -- the listed ids from s on stay
 abbrev pub drop_ids_below : ℕ → MasterData → MasterData
@@ -58,22 +47,13 @@ drop_ids_from s d = with_ids (ids_below s (listed_ids d)) d
 
 -- ===== what is read =====
 
--- an id, or absent with a zero id
-abbrev pub pack_last : Option BlockId → LastId
-pack_last none = record { present = false; id = zero_id }
-pack_last (some i) = record { present = true; id = i }
-
--- an id, or none
-abbrev pub view_last : LastId → Option BlockId
-view_last l = pick l.present (some l.id) none
-
 -- the last id that is listed, the highest where they rise
-abbrev pub highest_id : MasterData → LastId
-highest_id d = pack_last (last (listed_ids d))
+abbrev pub highest_id : MasterData → Option BlockId
+highest_id d = last (listed_ids d)
 
 -- a listed id has the seqno
 abbrev pub has_id : ℕ → MasterData → Bool
-has_id n d = present (find (id_at n) (listed_ids d))
+has_id n d = list_any (id_at n) (listed_ids d)
 
 -- question 9 of a seqno: an id has it already, or the ids are not full
 abbrev pub has_place_for_id : ℕ → MasterData → Bool

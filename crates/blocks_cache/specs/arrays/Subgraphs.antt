@@ -1,29 +1,30 @@
 -- RULES.md, Pop and Sync extraction: as the code answers them, for every cache, request and number of places that the lent slice has. What each
 -- answer says as the rules' answer is `extract_says`; proofs/arrays/SubgraphsLaws says that it is the rules' call.
 -- Assumes nothing.
-use Rattle.std.specs.Prelude.{◌≡◌, ℕ, ◌≤◌, List, [], length, take, replicate, negsuc}
+use Rattle.block_records.specs.declared.questions.Refusal.{Refusal}
+use Rattle.block_records.specs.declared.range.AppliedRange.{AppliedRange}
+use Rattle.std.specs.Prelude.{◌≡◌, ℕ, ◌≤◌, List, [], length, take, replicate, negsuc, map, cond, Option, Err, Ok, Result}
 use Rattle.block_records.specs.declared.block_id.BlockId.{BlockId}
 use Rattle.block_records.specs.declared.entry.BlockCacheEntry.{BlockCacheEntry}
 use Rattle.block_records.specs.declared.entry.MasterBlock.{MasterBlock}
 use Rattle.blocks_cache.specs.declared.cache.Cache.{Cache}
 use Rattle.blocks_cache.specs.declared.extraction.ExtractAnswer.{ExtractAnswer}
-use Rattle.blocks_cache.specs.declared.extraction.ExtractAnswer.TheVariants.{AlreadyExtracted as already_answer, Extracted as extracted_answer, Popped as popped_extract, Refused as refused_extract}
+use Rattle.blocks_cache.specs.declared.extraction.ExtractAnswer.TheVariants.{AlreadyExtracted as already_answer, Extracted as extracted_answer, Popped as popped_extract}
 use Rattle.blocks_cache.specs.declared.extraction.ExtractRequest.{ExtractRequest}
 use Rattle.blocks_cache.specs.declared.extraction.ExtractRequest.TheVariants.{Pop as pop_request, Sync as sync_request}
 use Rattle.blocks_cache.specs.declared.extraction.ExtractWithBlocks.{ExtractWithBlocks}
 use Rattle.blocks_cache.specs.declared.extraction.Extraction.{Extraction}
 use Rattle.blocks_cache.specs.declared.extraction.SubgraphExtract.{SubgraphExtract}
-use Rattle.blocks_cache.specs.declared.master_data.AppliedRange.{AppliedRange}
 use Rattle.blocks_group.specs.declared.group.MasterGroup.{MasterGroup}
 use Rattle.block_records.specs.layout.Entry.{pack_entry, pack_master}
 use Rattle.block_records.specs.layout.Zeros.{zero_entry, zero_master}
 use Rattle.block_records.specs.rules.Entry.{kind_applied}
 use Rattle.block_records.specs.rules.Limits.{slice_places}
-use Rattle.block_records.specs.rules.Lists.{each, last, padded, pick}
+use Rattle.block_records.specs.rules.Lists.{last, padded}
 use Rattle.blocks_cache.specs.arrays.Extraction.{view_master}
 use Rattle.blocks_cache.specs.arrays.LentSlices.{filled_at}
 use Rattle.blocks_cache.specs.arrays.MasterData.{drop_ids_below}
-use Rattle.blocks_cache.specs.layout.Cache.{HeldOutcome, call_on, pack, pack_range, view_range}
+use Rattle.blocks_cache.specs.layout.Cache.{HeldOutcome, call_on, pack}
 use Rattle.blocks_group.specs.arrays.Group.{master_seqno}
 use Rattle.cache_rules.specs.Calls.{Answer, Call, Effect, Extract, Request, already_extracted, extracted, pop, popped, refused, sync}
 use Rattle.cache_rules.specs.Model.{moved_start}
@@ -31,7 +32,7 @@ use Rattle.cache_rules.specs.Model.{moved_start}
 -- ===== what is handed out =====
 
 -- nothing: zeros beside the answer
-abbrev pub no_extract : ExtractAnswer → Cache → ExtractWithBlocks
+abbrev pub no_extract : Result ExtractAnswer Refusal → Cache → ExtractWithBlocks
 no_extract a c =
     record { extract = record { answer = a; master = zero_master; joined = 0; taken = 0; cache = c }; blocks = padded slice_places zero_entry [] }
 
@@ -39,7 +40,7 @@ no_extract a c =
 
 -- a masterchain id of a seqno; sync extraction does not look at the rest
 unfoldable pub some_id : ℕ → BlockId
-some_id n = record { prefix = 0; workchain = negsuc 0; seqno = n; root_hash = replicate 32 0; file_hash = replicate 32 0 }
+some_id n = record { shard = record { workchain = negsuc 0; prefix = 0 }; seqno = n; root_hash = replicate 32 0; file_hash = replicate 32 0 }
 
 -- the seqno of a request
 abbrev pub request_seqno : ExtractRequest → ℕ
@@ -49,7 +50,7 @@ request_seqno (sync_request n) = n
 -- ===== what the code does to the arrays =====
 
 -- M with the walk's numbers and blocks; a cache with these masters, this range, the walk's shard groups, and the ids from M's seqno on
-abbrev pub hand_out : Cache → ExtractAnswer → MasterBlock → MasterGroup → AppliedRange → Extraction → ExtractWithBlocks
+abbrev pub hand_out : Cache → Result ExtractAnswer Refusal → MasterBlock → MasterGroup → Option AppliedRange → Extraction → ExtractWithBlocks
 hand_out c a b masters range x =
     record {
       extract =
@@ -65,7 +66,6 @@ hand_out c a b masters range x =
                   «data» =
                       record {
                         ids = (drop_ids_below (master_seqno b) c.«data»).ids;
-                        count = (drop_ids_below (master_seqno b) c.«data»).count;
                         range = range;
                       };
                   shards = x.shards;
@@ -76,8 +76,8 @@ hand_out c a b masters range x =
     }
 
 -- the range moved on past M, if M is applied
-abbrev pub move_applied_start : AppliedRange → MasterBlock → AppliedRange
-move_applied_start r b = pick (kind_applied b.entry.«data») (pack_range (moved_start (master_seqno b) (view_range r))) r
+abbrev pub move_applied_start : Option AppliedRange → MasterBlock → Option AppliedRange
+move_applied_start r b = cond (kind_applied b.entry.«data») (moved_start (master_seqno b) r) r
 
 -- ===== an answer as the rules say it =====
 
@@ -85,12 +85,12 @@ move_applied_start r b = pick (kind_applied b.entry.«data») (pack_range (moved
 abbrev pub held_extract : SubgraphExtract → Extract
 held_extract r = record { block = view_master r.master; joined = r.joined; taken = r.taken }
 
--- what is handed out, already extracted, or the number of the refusal
-abbrev pub extract_says : SubgraphExtract → ExtractAnswer → Answer
-extract_says r (popped_extract last) = popped (held_extract r) last
-extract_says r extracted_answer = extracted (held_extract r)
-extract_says r already_answer = already_extracted
-extract_says r (refused_extract n) = refused n
+-- what is handed out, already extracted, or the refusal
+abbrev pub extract_says : SubgraphExtract → Result ExtractAnswer Refusal → Answer
+extract_says r (Ok (popped_extract last)) = popped (held_extract r) last
+extract_says r (Ok extracted_answer) = extracted (held_extract r)
+extract_says r (Ok already_answer) = already_extracted
+extract_says r (Err n) = refused n
 
 -- the answer, the cache, and the slice as it then is
 abbrev pub extract_outcome : SubgraphExtract → List BlockCacheEntry → HeldOutcome
@@ -114,11 +114,11 @@ abbrev pub with_master : MasterBlock → SubgraphExtract → SubgraphExtract
 with_master b r = record { answer = r.answer; master = b; joined = r.joined; taken = r.taken; cache = r.cache }
 
 -- zeros in M's unused places, and everywhere where the answer hands out nothing
-abbrev pub zeroed_extract_by : SubgraphExtract → ExtractAnswer → SubgraphExtract
-zeroed_extract_by r (popped_extract last) = with_master (pack_master (view_master r.master)) r
-zeroed_extract_by r extracted_answer = with_master (pack_master (view_master r.master)) r
-zeroed_extract_by r already_answer = record { answer = r.answer; master = zero_master; joined = 0; taken = 0; cache = r.cache }
-zeroed_extract_by r (refused_extract n) = record { answer = r.answer; master = zero_master; joined = 0; taken = 0; cache = r.cache }
+abbrev pub zeroed_extract_by : SubgraphExtract → Result ExtractAnswer Refusal → SubgraphExtract
+zeroed_extract_by r (Ok (popped_extract last)) = with_master (pack_master (view_master r.master)) r
+zeroed_extract_by r (Ok extracted_answer) = with_master (pack_master (view_master r.master)) r
+zeroed_extract_by r (Ok already_answer) = record { answer = r.answer; master = zero_master; joined = 0; taken = 0; cache = r.cache }
+zeroed_extract_by r (Err n) = record { answer = r.answer; master = zero_master; joined = 0; taken = 0; cache = r.cache }
 
 -- the same by its own answer
 abbrev pub zeroed_extract : SubgraphExtract → SubgraphExtract
@@ -135,7 +135,7 @@ pub record PacksEffect (e : Effect) (p : ExtractWithBlocks) : Type 0 where
   pub cache : p.extract.cache ≡ pack e.model
   pub answer : extract_says p.extract p.extract.answer ≡ e.answer
   pub joined : p.extract.joined ≡ length e.blocks
-  pub blocks : p.blocks ≡ padded slice_places zero_entry (each pack_entry e.blocks)
+  pub blocks : p.blocks ≡ padded slice_places zero_entry (map pack_entry e.blocks)
   pub zeroed : p.extract ≡ zeroed_extract p.extract
 
 -- It is the call with a slice of so many places: written over the front of any such slice, its blocks leave the call's outcome. They fit the slice,

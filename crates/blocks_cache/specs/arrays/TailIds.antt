@@ -1,19 +1,17 @@
 -- RULES.md, Tail ids: the rows as they are held, and what the code does to them and to the ids that wait, for every input, sound or not. On packed
 -- rows and a packed cache this is the rule, packed (proofs/arrays/TailIdsLaws).
 -- Assumes nothing.
-use Rattle.std.specs.Prelude.{ℕ, zero, suc, ◌+◌, ◌%◌, ◌^◌, Bool, true, false, not, ◌&&◌, ◌||◌, List, [], ◌∷◌, ◌++◌, length, take, ◌==◌, nat_eq, nat_le, nat_lt, slice_index_or, slice_set}
-use Rattle.std.proofs.Math.Option.{Option, none, some}
+use Rattle.block_records.specs.declared.questions.Refusal.{Refusal}
+use Rattle.cache_rules.specs.TailIds.{less_option}
+use Rattle.block_records.specs.declared.questions.Refusal.TheVariants.{NoMaster}
+use Rattle.std.specs.List.{find, fold}
+use Rattle.std.specs.Prelude.{ℕ, zero, suc, ◌+◌, ◌%◌, ◌^◌, Bool, true, false, ◌||◌, List, [], ◌∷◌, ◌++◌, length, take, ◌==◌, nat_eq, nat_le, nat_lt, slice_index_or, slice_set, Option, None, Some, map, cond, is_some, Err, Ok, Result, is_none, ⊤}
 use Rattle.block_records.specs.declared.block_id.BlockId.{BlockId}
 use Rattle.block_records.specs.declared.block_id.ShardIdent.{ShardIdent}
 use Rattle.block_records.specs.declared.entry.BlockCacheEntry.{BlockCacheEntry}
 use Rattle.block_records.specs.declared.entry.MasterBlock.{MasterBlock}
-use Rattle.block_records.specs.declared.place.Place.{Place}
-use Rattle.block_records.specs.declared.place.Place.TheVariants.{At as place_at, Vacant as vacant_at}
-use Rattle.block_records.specs.declared.store_records.PrevIds.{PrevIds}
+use Rattle.block_records.specs.layout.Listed.{PrevIds}
 use Rattle.blocks_cache.specs.declared.cache.Cache.{Cache}
-use Rattle.blocks_cache.specs.declared.master_data.LastId.{LastId}
-use Rattle.blocks_cache.specs.declared.tail_ids.TailAnswer.{TailAnswer}
-use Rattle.blocks_cache.specs.declared.tail_ids.TailAnswer.TheVariants.{Refused as tails_refused, Rows as tails_given}
 use Rattle.blocks_cache.specs.declared.tail_ids.TailIds.{TailIds}
 use Rattle.blocks_cache.specs.declared.tail_ids.TailIdsRow.{TailIdsRow}
 use Rattle.blocks_cache.specs.declared.tail_ids.TailRows.{TailRows}
@@ -21,11 +19,10 @@ use Rattle.blocks_cache.specs.declared.tail_ids.TailWalk.{TailWalk}
 use Rattle.block_records.specs.arrays.Place.{place}
 use Rattle.block_records.specs.layout.Entry.{pack_prev_ids}
 use Rattle.block_records.specs.layout.Zeros.{zero_id, zero_prev_ids, zero_shard}
-use Rattle.block_records.specs.rules.BlockId.{id_shard, less_id, less_shard, listed_prev_ids, listed_tops, same_shard}
+use Rattle.block_records.specs.rules.BlockId.{id_shard, less_shard, listed_prev_ids, listed_tops, same_shard}
 use Rattle.block_records.specs.rules.Limits.{queued_limit, queued_places, rows_limit}
-use Rattle.block_records.specs.rules.Lists.{each, find, fold, padded, pick, present, put}
+use Rattle.block_records.specs.rules.Lists.{padded, put}
 use Rattle.blocks_cache.specs.arrays.Lookup.{cached_block}
-use Rattle.blocks_cache.specs.arrays.MasterData.{pack_last, view_last}
 use Rattle.blocks_cache.specs.layout.Cache.{HeldOutcome}
 use Rattle.blocks_group.specs.arrays.Group.{answered_master, master_at}
 use Rattle.cache_rules.specs.Calls.{Answer, TailRow, refused, tail_ids}
@@ -34,17 +31,17 @@ use Rattle.cache_rules.specs.TailIdsOnce.{unknown_ids}
 
 -- ===== the rows =====
 
--- a row as it is held: absent over zeros, zeros beyond the previous ids
+-- a row as it is held: zeros beyond the previous ids
 abbrev pub pack_tail : TailRow → TailIdsRow
-pack_tail t = record { shard = t.shard; id = pack_last t.id; prev_ids = pack_prev_ids t.previous }
+pack_tail t = record { shard = t.shard; id = t.id; prev_ids = pack_prev_ids t.previous }
 
 -- what a row says
 abbrev pub view_tail : TailIdsRow → TailRow
-view_tail r = record { shard = r.shard; id = view_last r.id; previous = listed_prev_ids r.prev_ids }
+view_tail r = record { shard = r.shard; id = r.id; previous = listed_prev_ids r.prev_ids }
 
 -- a row of zeros
 unfoldable pub zero_tail : TailIdsRow
-zero_tail = record { shard = zero_shard; id = pack_last none; prev_ids = zero_prev_ids }
+zero_tail = record { shard = zero_shard; id = None; prev_ids = zero_prev_ids }
 
 -- these rows, and zeros after them
 abbrev pub with_rows : List TailIdsRow → TailRows
@@ -52,7 +49,7 @@ with_rows rs = record { rows = padded rows_limit zero_tail rs; count = length rs
 
 -- the rows of the rules, packed
 abbrev pub pack_tails : List TailRow → TailRows
-pack_tails ts = with_rows (each pack_tail ts)
+pack_tails ts = with_rows (map pack_tail ts)
 
 -- the rows below the count; a count past the 17 places lists them all
 abbrev pub listed_tails : TailRows → List TailIdsRow
@@ -60,7 +57,7 @@ listed_tails t = take t.count t.rows
 
 -- what the rows say
 abbrev pub view_tails : TailRows → List TailRow
-view_tails t = each view_tail (listed_tails t)
+view_tails t = map view_tail (listed_tails t)
 
 -- ===== a row held =====
 
@@ -77,20 +74,16 @@ abbrev pub row_at : ShardIdent → TailIdsRow → Bool
 row_at s r = same_shard r.shard s
 
 -- where a shard's row stands, or the place where it would go in
-abbrev pub row_place : ShardIdent → TailRows → Place
+abbrev pub row_place : ShardIdent → TailRows → Result ℕ ℕ
 row_place s t = place (row_below s) (row_at s) (listed_tails t)
-
--- the order of ids, an absent one before all that are present
-abbrev pub less_last : LastId → LastId → Bool
-less_last a b = b.present && (not a.present || less_id a.id b.id)
 
 -- the row put in by shard; one of the same shard is replaced; nothing changes where they would be more than 17
 abbrev pub put_row : TailIdsRow → TailRows → TailRows
-put_row r t = pick (nat_le (length (put row_before r (listed_tails t))) rows_limit) (with_rows (put row_before r (listed_tails t))) t
+put_row r t = cond (nat_le (length (put row_before r (listed_tails t))) rows_limit) (with_rows (put row_before r (listed_tails t))) t
 
 -- an id takes the place of one held: that one is absent, or this one comes before it
-abbrev pub replaces_last : LastId → LastId → Bool
-replaces_last a h = not h.present || less_last a h
+abbrev pub replaces_last : Option BlockId → Option BlockId → Bool
+replaces_last a h = is_none h || less_option a h
 
 -- the same of two rows
 abbrev pub replaces_row : TailIdsRow → TailIdsRow → Bool
@@ -101,9 +94,9 @@ abbrev pub set_row : ℕ → TailIdsRow → TailRows → TailRows
 set_row k r t = record { rows = slice_set t.rows k r; count = t.count }
 
 -- by what stands at the place of the row's shard
-abbrev pub row_held_at : TailIdsRow → Place → TailRows → TailRows
-row_held_at r (place_at k) t = pick (replaces_row r (slice_index_or t.rows k zero_tail)) (set_row k r t) t
-row_held_at r (vacant_at k) t = put_row r t
+abbrev pub row_held_at : TailIdsRow → Result ℕ ℕ → TailRows → TailRows
+row_held_at r (Ok k) t = cond (replaces_row r (slice_index_or t.rows k zero_tail)) (set_row k r t) t
+row_held_at r (Err k) t = put_row r t
 
 -- the row held for its shard
 unfoldable pub hold_row : TailIdsRow → TailRows → TailRows
@@ -113,11 +106,11 @@ hold_row r t = row_held_at r (row_place r.shard t) t
 
 -- the row of a cached block: the id that was looked up, and the block's previous ids
 abbrev pub cached_row : BlockId → PrevIds → TailIdsRow
-cached_row i ps = record { shard = id_shard i; id = pack_last (some i); prev_ids = ps }
+cached_row i ps = record { shard = id_shard i; id = (Some i); prev_ids = ps }
 
 -- the row of a top that is not cached: no id, and the top itself as the previous one
 abbrev pub missing_row : BlockId → TailIdsRow
-missing_row i = record { shard = id_shard i; id = pack_last none; prev_ids = pack_prev_ids (i ∷ []) }
+missing_row i = record { shard = id_shard i; id = None; prev_ids = pack_prev_ids (i ∷ []) }
 
 -- a row or none, and the previous ids that are queued
 pub record TailStep : Type 0 where
@@ -140,34 +133,34 @@ missing_step i = record { given = true; row = missing_row i; queued = zero_prev_
 -- by the block cached under the id's key: one that is a top or names M gives its row and queues its previous ids; a top that is not cached gives its
 -- row
 abbrev pub found_step : ℕ → Bool → BlockId → Option BlockCacheEntry → TailStep
-found_step m as_top i (some b) = pick (as_top || b.ref_by_mc_seqno == m) (cached_step i b.prev_ids) no_step
-found_step m as_top i none = pick as_top (missing_step i) no_step
+found_step m as_top i (Some b) = cond (as_top || b.ref_by_mc_seqno == m) (cached_step i b.prev_ids) no_step
+found_step m as_top i None = cond as_top (missing_step i) no_step
 
 -- what an id of the walk gives and queues; nothing of seqno 0
 unfoldable pub step_of : Cache → ℕ → Bool → BlockId → TailStep
-step_of c m as_top i = pick (i.seqno == 0) no_step (found_step m as_top i (cached_block i c))
+step_of c m as_top i = cond (i.seqno == 0) no_step (found_step m as_top i (cached_block i c))
 
 -- the row, where one is given
 abbrev pub hold_given : TailStep → TailRows → TailRows
-hold_given s t = pick s.given (hold_row s.row t) t
+hold_given s t = cond s.given (hold_row s.row t) t
 
 -- ===== the ids that wait =====
 
 -- one id or the other, both or none
 abbrev pub two_ids : BlockId → Bool → BlockId → Bool → List BlockId
-two_ids a takes_a b takes_b = pick takes_a (a ∷ pick takes_b (b ∷ []) []) (pick takes_b (b ∷ []) [])
+two_ids a takes_a b takes_b = cond takes_a (a ∷ cond takes_b (b ∷ []) []) (cond takes_b (b ∷ []) [])
 
 -- those that are not known yet, each once; none of them where known and new together are more than 256
 unfoldable pub fresh_ids : List BlockId → List BlockId → List BlockId
-fresh_ids known ps = pick (nat_le (length known + length (unknown_ids known ps)) queued_limit) (unknown_ids known ps) []
+fresh_ids known ps = cond (nat_le (length known + length (unknown_ids known ps)) queued_limit) (unknown_ids known ps) []
 
 -- whether a number is among others
 abbrev pub has_number : List ℕ → ℕ → Bool
-has_number ns n = present (find (λ (x : ℕ). nat_eq x n) ns)
+has_number ns n = is_some (find (λ (x : ℕ). nat_eq x n) ns)
 
 -- ids that are the same have the same fingerprint, so that most ids are known to be new without being compared
 unfoldable pub fingerprint : BlockId → ℕ
-fingerprint i = (i.prefix + i.seqno) % 2 ^ 64
+fingerprint i = (i.shard.prefix + i.seqno) % 2 ^ 64
 
 -- ===== the walk =====
 
@@ -178,7 +171,7 @@ pub record TailState : Type 0 where
 
 -- the ids first with their fingerprints, zeros after them
 abbrev pub pack_walk : TailState → TailWalk
-pack_walk w = record { tails = w.tails; ids = padded queued_places zero_id w.known; fingerprints = padded queued_places 0 (each fingerprint w.known); count = length w.known }
+pack_walk w = record { tails = w.tails; ids = padded queued_places zero_id w.known; fingerprints = padded queued_places 0 (map fingerprint w.known); count = length w.known }
 
 -- what stands in the arrays
 abbrev pub walk_state : TailWalk → TailState
@@ -198,7 +191,7 @@ take_tail_id c m as_top w i = stepped (step_of c m as_top i) w
 
 -- the id at place j of the queue, if one stands there
 abbrev pub take_queued_at : Cache → ℕ → ℕ → TailState → TailState
-take_queued_at c m j w = pick (nat_lt j (length w.known)) (take_tail_id c m false w (slice_index_or w.known j zero_id)) w
+take_queued_at c m j w = cond (nat_lt j (length w.known)) (take_tail_id c m false w (slice_index_or w.known j zero_id)) w
 
 -- those at k places of the queue, from place j on
 unfoldable pub take_queued : ℕ → Cache → ℕ → ℕ → TailState → TailState
@@ -210,23 +203,23 @@ unfoldable pub block_tails : MasterBlock → Cache → TailRows
 block_tails b c =
     (take_queued queued_limit c b.entry.block_id.seqno 0
     (fold (take_tail_id c b.entry.block_id.seqno true) (first_state (cached_row b.entry.block_id b.entry.prev_ids))
-    (each top_id (listed_tops b.tops)))).tails
+    (map top_id (listed_tops b.tops)))).tails
 
 -- ===== what an answer says =====
 
--- rows, or the number of the refusal
-abbrev pub tails_say : TailAnswer → TailRows → Answer
-tails_say tails_given t = tail_ids (view_tails t)
-tails_say (tails_refused n) t = refused n
+-- rows, or the refusal
+abbrev pub tails_say : Result ⊤ Refusal → TailRows → Answer
+tails_say (Ok x) t = tail_ids (view_tails t)
+tails_say (Err n) t = refused n
 
 -- the cache is left as it was given; no slice is lent
 abbrev pub tail_outcome : Cache → TailIds → HeldOutcome
 tail_outcome c r = record { cache = c; answer = tails_say r.answer r.tails; slice = [] }
 
 -- the rows with zeros in what they do not use; none beside a refusal
-abbrev pub zeroed_rows : TailAnswer → TailRows → TailRows
-zeroed_rows tails_given t = pack_tails (view_tails t)
-zeroed_rows (tails_refused n) t = with_rows []
+abbrev pub zeroed_rows : Result ⊤ Refusal → TailRows → TailRows
+zeroed_rows (Ok x) t = pack_tails (view_tails t)
+zeroed_rows (Err n) t = with_rows []
 
 -- the same answer with zeros in what it does not use
 abbrev pub zeroed_tails : TailIds → TailIds
@@ -235,18 +228,18 @@ zeroed_tails r = record { answer = r.answer; tails = zeroed_rows r.answer r.tail
 -- ===== tail ids =====
 
 -- an answer with no row beside it
-abbrev pub no_tails : TailAnswer → TailIds
+abbrev pub no_tails : Result ⊤ Refusal → TailIds
 no_tails a = record { answer = a; tails = with_rows [] }
 
 -- these rows
 abbrev pub given_tails : TailRows → TailIds
-given_tails t = record { answer = tails_given; tails = t }
+given_tails t = record { answer = Ok tt; tails = t }
 
 -- the tail ids of the master block found; 12 where none was found
 abbrev pub tails_at : Option MasterBlock → Cache → TailIds
-tails_at none c = no_tails (tails_refused 12)
-tails_at (some b) c = given_tails (block_tails b c)
+tails_at None c = no_tails (Err NoMaster)
+tails_at (Some b) c = given_tails (block_tails b c)
 
 -- no row up to the zerostate's seqno; above it the tail ids of the master at the seqno
 unfoldable pub read_tails : ℕ → Cache → TailIds
-read_tails n c = pick (nat_le n c.zerostate_mc_seqno) (no_tails tails_given) (tails_at (answered_master (master_at n c.masters)) c)
+read_tails n c = cond (nat_le n c.zerostate_mc_seqno) (no_tails (Ok tt)) (tails_at (answered_master (master_at n c.masters)) c)

@@ -1,18 +1,17 @@
 -- RULES.md, Validation: what the code does to a cache as it is held, for every cache, sound or not, and what its answer says. On a packed cache this
 -- is the rule, packed (proofs/arrays/ValidationLaws).
 -- Assumes nothing.
-use Rattle.std.specs.Prelude.{ℕ, true, false, []}
-use Rattle.std.proofs.Math.Option.{Option, none, some}
+use Rattle.block_records.specs.declared.questions.Refusal.{Refusal}
+use Rattle.std.specs.Prelude.{ℕ, true, false, [], Option, None, Some, Err, Ok, Result}
 use Rattle.block_records.specs.declared.entry.BlockCacheEntryData.{BlockCacheEntryData}
 use Rattle.block_records.specs.declared.entry.MasterBlock.{MasterBlock}
 use Rattle.blocks_cache.specs.declared.cache.Cache.{Cache}
 use Rattle.blocks_cache.specs.declared.validation.ValidatedKind.{ValidatedKind}
 use Rattle.blocks_cache.specs.declared.validation.ValidationAnswer.{ValidationAnswer}
-use Rattle.blocks_cache.specs.declared.validation.ValidationAnswer.TheVariants.{NoChange as status_kept, Refused as validation_refused, Updated as status_updated}
+use Rattle.blocks_cache.specs.declared.validation.ValidationAnswer.TheVariants.{NoChange as status_kept, Updated as status_updated}
 use Rattle.blocks_cache.specs.declared.validation.ValidationResult.{ValidationResult}
 use Rattle.blocks_cache.specs.declared.validation.ValidationStatus.{ValidationStatus}
 use Rattle.blocks_cache.specs.declared.validation.ValidationStatus.TheVariants.{Complete as validation_complete, Skipped as validation_skipped}
-use Rattle.block_records.specs.rules.Entry.{status_number}
 use Rattle.blocks_cache.specs.arrays.Cache.{with_master_group}
 use Rattle.blocks_cache.specs.layout.Cache.{HeldOutcome}
 use Rattle.blocks_group.specs.arrays.Group.{answered_master, master_at, put_master}
@@ -27,11 +26,11 @@ abbrev pub view_validation : ValidationStatus → Validation
 view_validation (validation_complete handle weight) = complete handle weight
 view_validation validation_skipped = skipped
 
--- the number of the new status, no change, or the number of the refusal
-abbrev pub validation_says : ValidationAnswer → Answer
-validation_says (status_updated st) = validated (status_number st)
-validation_says status_kept = no_change
-validation_says (validation_refused n) = refused n
+-- the new status, no change, or the refusal
+abbrev pub validation_says : Result ValidationAnswer Refusal → Answer
+validation_says (Ok (status_updated st)) = validated st
+validation_says (Ok status_kept) = no_change
+validation_says (Err n) = refused n
 
 -- answer and cache; no slice is lent
 abbrev pub validation_outcome : ValidationResult → HeldOutcome
@@ -41,25 +40,25 @@ validation_outcome r = record { cache = r.cache; answer = validation_says r.answ
 
 -- the changed kind, or that which was given
 abbrev pub pack_kind : BlockCacheEntryData → Option BlockCacheEntryData → ValidatedKind
-pack_kind k none = record { changed = false; «data» = k }
-pack_kind k (some n) = record { changed = true; «data» = n }
+pack_kind k None = record { changed = false; «data» = k }
+pack_kind k (Some n) = record { changed = true; «data» = n }
 
 -- ===== the master block at a seqno =====
 
 -- no change
 abbrev pub kept_status : Cache → ValidationResult
-kept_status c = record { answer = status_kept; cache = c }
+kept_status c = record { answer = Ok status_kept; cache = c }
 
 -- the master block with its new kind, and the status as the answer; or no change
 abbrev pub held_validate_kind : Validation → MasterBlock → Option BlockCacheEntryData → Cache → ValidationResult
-held_validate_kind v b none c = kept_status c
-held_validate_kind v b (some k) c =
-    record { answer = status_updated (result_status v); cache = with_master_group (put_master (with_block_data k b) c.masters) c }
+held_validate_kind v b None c = kept_status c
+held_validate_kind v b (Some k) c =
+    record { answer = Ok (status_updated (result_status v)); cache = with_master_group (put_master (with_block_data k b) c.masters) c }
 
 -- validation of the master block found; no change where none was found
 abbrev pub validate_block : Validation → Option MasterBlock → Cache → ValidationResult
-validate_block v none c = kept_status c
-validate_block v (some b) c = held_validate_kind v b (validated_kind v (block_kind b)) c
+validate_block v None c = kept_status c
+validate_block v (Some b) c = held_validate_kind v b (validated_kind v (block_kind b)) c
 
 -- validation of the master block at a seqno
 unfoldable pub validate_master : ℕ → Validation → Cache → ValidationResult

@@ -1,37 +1,30 @@
 -- RULES.md, How it is held and Soundness: the cache in arrays with counts; how the model is packed into it, what it stands for, when it is sound, and
 -- a call on it.
 -- Assumes nothing.
-use Rattle.std.specs.Prelude.{ℕ, suc, Bool, true, false, not, ◌&&◌, List, [], ◌∷◌, length, take, drop, replicate, ◌==◌, nat_le}
-use Rattle.std.proofs.Math.Option.{Option, none, some}
+use Rattle.block_records.specs.layout.Listed.{packed}
+use Rattle.block_records.specs.declared.questions.Refusal.{Refusal}
+use Rattle.std.specs.Option.{option_eq}
+use Rattle.block_records.specs.declared.range.AppliedRange.{AppliedRange}
+use Rattle.block_records.specs.declared.questions.Refusal.TheVariants.{SeqnoLimit, Unsound}
+use lib.Pointwise.{pointwise}
+use Rattle.std.specs.List.{list_all}
+use Rattle.std.specs.Prelude.{ℕ, suc, Bool, not, ◌&&◌, List, [], ◌∷◌, length, take, drop, replicate, ◌==◌, nat_le, Option, None, Some, map, cond, Err, Ok}
 use Rattle.block_records.specs.declared.entry.BlockCacheEntry.{BlockCacheEntry}
 use Rattle.blocks_cache.specs.declared.cache.Cache.{Cache}
 use Rattle.blocks_cache.specs.declared.cache.NewCache.{NewCache}
-use Rattle.blocks_cache.specs.declared.cache.NewCacheAnswer.TheVariants.{Made as made, Refused as refused_new}
 use Rattle.blocks_cache.specs.declared.cache.ShardGroup.{ShardGroup}
-use Rattle.blocks_cache.specs.declared.master_data.AppliedRange.{AppliedRange}
-use Rattle.blocks_cache.specs.declared.master_data.AppliedRange.TheVariants.{Absent as no_range, Over as range_over}
 use Rattle.blocks_cache.specs.declared.master_data.MasterData.{MasterData}
 use Rattle.block_records.specs.layout.Zeros.{is_zero_id, zero_id, zero_shard}
 use Rattle.block_records.specs.rules.BlockId.{is_masterchain, less_shard, same_id, same_shard}
 use Rattle.block_records.specs.rules.Limits.{ids_limit, shards_limit}
-use Rattle.block_records.specs.rules.Lists.{each, every, padded, pick, rising, same_list}
+use Rattle.block_records.specs.rules.Lists.{padded, rising}
 use Rattle.block_records.specs.rules.Questions.{Question, ask, first_no, seqno_fits}
-use Rattle.blocks_group.specs.layout.Group.{pack_group, pack_master_group, same_group, same_master_group, sound_group, sound_master_group, view_group, view_mark, view_master_group, zero_group, zero_master_group}
+use Rattle.blocks_group.specs.layout.Group.{pack_group, pack_master_group, same_group, same_master_group, sound_group, sound_master_group, view_group, view_master_group, zero_group, zero_master_group}
 use Rattle.blocks_group.specs.rules.Soundness.{of_shard}
 use Rattle.cache_rules.specs.Calls.{Answer, Call, Outcome, refused}
 use Rattle.cache_rules.specs.Effects.{effect, outcome_of}
-use Rattle.cache_rules.specs.Model.{Model, Range, ShardModel, empty_model, id_before}
+use Rattle.cache_rules.specs.Model.{Model, ShardModel, empty_model, id_before}
 use Rattle.cache_rules.specs.Refusals.{further, id_masterchain, sound_model, sound_range}
-
--- a range or none, as it is held
-abbrev pub pack_range : Option Range → AppliedRange
-pack_range none = no_range
-pack_range (some r) = range_over r.start r.end
-
--- the same as an option
-abbrev pub view_range : AppliedRange → Option Range
-view_range no_range = none
-view_range (range_over s e) = some (record { start = s; end = e })
 
 -- a shard's group as it is held
 abbrev pub pack_shard : ShardModel → ShardGroup
@@ -51,8 +44,8 @@ pack m =
     record {
       zerostate_mc_seqno = m.zerostate;
       masters = pack_master_group m.masters;
-      «data» = record { ids = padded ids_limit zero_id m.ids; count = length m.ids; range = pack_range m.range };
-      shards = padded shards_limit zero_shard_group (each pack_shard m.shards);
+      «data» = record { ids = packed ids_limit zero_id m.ids; range = m.range };
+      shards = padded shards_limit zero_shard_group (map pack_shard m.shards);
       shard_count = length m.shards;
     }
 
@@ -62,23 +55,24 @@ view c =
     record {
       zerostate = c.zerostate_mc_seqno;
       masters = view_master_group c.masters;
-      ids = take c.«data».count c.«data».ids;
-      range = view_range c.«data».range;
-      shards = each view_shard (take c.shard_count c.shards);
+      ids = take c.«data».ids.count c.«data».ids.items;
+      range = c.«data».range;
+      shards = map view_shard (take c.shard_count c.shards);
     }
 
 -- ===== equality, as tests =====
 
+-- the same start and end
+abbrev pub same_seqnos : AppliedRange → AppliedRange → Bool
+same_seqnos a b = a.start == b.start && a.end == b.end
+
 -- both absent, or the same start and end
-abbrev pub same_range : AppliedRange → AppliedRange → Bool
-same_range no_range no_range = true
-same_range no_range (range_over s e) = false
-same_range (range_over s e) no_range = false
-same_range (range_over s e) (range_over s' e') = s == s' && e == e'
+abbrev pub same_range : Option AppliedRange → Option AppliedRange → Bool
+same_range a b = option_eq same_seqnos a b
 
 -- the same count and range, and the same id in every place
 unfoldable pub same_data : MasterData → MasterData → Bool
-same_data a b = a.count == b.count && (same_range a.range b.range && same_list same_id a.ids b.ids)
+same_data a b = a.ids.count == b.ids.count && (same_range a.range b.range && pointwise same_id a.ids.items b.ids.items)
 
 -- the same shard and group
 unfoldable pub same_shard_group : ShardGroup → ShardGroup → Bool
@@ -92,7 +86,7 @@ is_zero_shard_group g = same_shard_group g zero_shard_group
 unfoldable pub same_cache : Cache → Cache → Bool
 same_cache a b =
     (a.shard_count == b.shard_count) && (a.zerostate_mc_seqno == b.zerostate_mc_seqno
-    && (same_data a.«data» b.«data» && (same_master_group a.masters b.masters && same_list same_shard_group a.shards b.shards)))
+    && (same_data a.«data» b.«data» && (same_master_group a.masters b.masters && pointwise same_shard_group a.shards b.shards)))
 
 -- tidy: a cache is the packing of what it stands for
 abbrev pub cache_tidy : Cache → Bool
@@ -117,19 +111,19 @@ sound_shard_group g = not (is_masterchain g.shard) && sound_group (of_shard g.sh
 -- last collated ids: no more than their places, zeros after them, rising by seqno, all of the masterchain
 abbrev pub sound_ids : MasterData → Bool
 sound_ids d =
-    nat_le d.count ids_limit && (every is_zero_id (drop d.count d.ids)
-    && (rising id_before (take d.count d.ids) && every id_masterchain (take d.count d.ids)))
+    nat_le d.ids.count ids_limit && (list_all is_zero_id (drop d.ids.count d.ids.items)
+    && (rising id_before (take d.ids.count d.ids.items) && list_all id_masterchain (take d.ids.count d.ids.items)))
 
 -- shard groups: no more than their places, zeros after them, rising by shard, each sound
 abbrev pub sound_shards : ℕ → List ShardGroup → Bool
 sound_shards n gs =
-    nat_le n shards_limit && (every is_zero_shard_group (drop n gs)
-    && (rising shard_group_before (take n gs) && every sound_shard_group (take n gs)))
+    nat_le n shards_limit && (list_all is_zero_shard_group (drop n gs)
+    && (rising shard_group_before (take n gs) && list_all sound_shard_group (take n gs)))
 
 -- the master group, the range by its mark, the last collated ids and the shard groups
 abbrev pub sound_cache_by_parts : Cache → Bool
 sound_cache_by_parts c =
-    sound_master_group c.masters && (sound_range (view_mark c.masters.group.mark) (view_range c.«data».range)
+    sound_master_group c.masters && (sound_range c.masters.group.mark c.«data».range
     && (sound_ids c.«data» && sound_shards c.shard_count c.shards))
 
 -- what a call leaves and answers, with the slice that was lent
@@ -144,12 +138,12 @@ pack_outcome o = record { cache = pack o.model; answer = o.answer; slice = o.sli
 
 -- all questions of a call on a cache
 abbrev pub questions_on : Cache → Call → List Question
-questions_on c call = ask 1 (sound_cache c) ∷ further (view c) (length call.lent) call.request
+questions_on c call = ask Unsound (sound_cache c) ∷ further (view c) (length call.lent) call.request
 
--- a number refuses: cache and slice are as they were; else the rules' outcome on the model, packed
-abbrev pub answered_on : Option ℕ → Cache → Call → HeldOutcome
-answered_on none c call = pack_outcome (outcome_of (effect (view c) call.request) call.lent)
-answered_on (some n) c call = record { cache = c; answer = refused n; slice = call.lent }
+-- a refusal: cache and slice are as they were; else the rules' outcome on the model, packed
+abbrev pub answered_on : Option Refusal → Cache → Call → HeldOutcome
+answered_on None c call = pack_outcome (outcome_of (effect (view c) call.request) call.lent)
+answered_on (Some n) c call = record { cache = c; answer = refused n; slice = call.lent }
 
 -- one call on a cache
 unfoldable pub call_on : Cache → Call → HeldOutcome
@@ -168,7 +162,7 @@ zero_cache zerostate count =
     record {
       zerostate_mc_seqno = zerostate;
       masters = zero_master_group;
-      «data» = record { ids = replicate ids_limit zero_id; count = 0; range = no_range };
+      «data» = record { ids = packed ids_limit zero_id []; range = None };
       shards = replicate shards_limit zero_shard_group;
       shard_count = count;
     }
@@ -180,4 +174,4 @@ no_cache = zero_cache 0 (suc shards_limit)
 -- a new cache for a zerostate seqno that passes question 2; else the refusal, beside `no_cache`
 abbrev pub empty : ℕ → NewCache
 empty zerostate =
-    pick (seqno_fits zerostate) (record { answer = made; cache = pack (empty_model zerostate) }) (record { answer = refused_new 2; cache = no_cache })
+    cond (seqno_fits zerostate) (record { answer = Ok tt; cache = pack (empty_model zerostate) }) (record { answer = Err SeqnoLimit; cache = no_cache })

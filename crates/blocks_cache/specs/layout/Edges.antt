@@ -1,15 +1,16 @@
 -- RULES.md, Soundness: counts past their capacity in a cache as it is held, where a cache that no list of calls makes is given to a call.
 -- Assumes nothing.
-use Rattle.std.specs.Prelude.{◌≡◌, ℕ, List, [], ◌∷◌, ◌++◌, replicate, refl}
+use Rattle.block_records.specs.declared.questions.Refusal.TheVariants.{Unsound}
+use Rattle.std.specs.Prelude.{◌≡◌, ℕ, List, [], ◌∷◌, ◌++◌, replicate, refl, map}
 use Rattle.block_records.specs.declared.entry.BlockCacheEntry.{BlockCacheEntry}
-use Rattle.block_records.specs.declared.top_block.TopBlocks.{TopBlocks}
+use Rattle.block_records.specs.layout.Listed.{TopBlocks}
 use Rattle.blocks_cache.specs.declared.cache.Cache.{Cache}
 use Rattle.blocks_cache.specs.declared.cache.ShardGroup.{ShardGroup}
 use Rattle.blocks_group.specs.declared.group.Group.{Group}
 use Rattle.block_records.specs.layout.Equality.{same_entry}
 use Rattle.block_records.specs.layout.Zeros.{zero_entry, zero_hash, zero_id, zero_prev_ids, zero_shard, zero_top, zero_tops}
-use Rattle.block_records.specs.rules.BlockId.{is_masterchain, less_id, less_shard, same_id, same_shard}
-use Rattle.block_records.specs.rules.Lists.{each, padded}
+use Rattle.block_records.specs.rules.BlockId.{less_id, less_shard}
+use Rattle.block_records.specs.rules.Lists.{padded}
 use Rattle.blocks_cache.specs.layout.Cache.{call_on, pack, same_cache, same_data, same_shard_group, sound_cache, zero_shard_group}
 use Rattle.blocks_group.specs.layout.Group.{same_group, same_master_group, zero_group}
 use Rattle.cache_rules.specs.Calls.{Answer, nothing, peek, refused}
@@ -32,7 +33,7 @@ pub with_prev_count : ℕ → BlockCacheEntry → BlockCacheEntry
 with_prev_count n b =
     record {
       block_id = b.block_id;
-      prev_ids = record { ids = b.prev_ids.ids; count = n };
+      prev_ids = record { items = b.prev_ids.items; count = n };
       top_anchor = b.top_anchor;
       ref_by_mc_seqno = b.ref_by_mc_seqno;
       payload = b.payload;
@@ -92,6 +93,6 @@ pub peek_answer : Cache → Answer
 peek_answer c = (call_on c (ask_call (peek 0))).answer
 
 -- all but the last are refused by question 1
-pub cached_edges : each peek_answer altered ≡ replicate 6 (refused 1) ++ (nothing ∷ [])
-unfolding step same_shard less_shard same_id less_id is_masterchain after sound_model effect further call_on sound_cache same_cache same_data same_shard_group same_group same_master_group same_entry padded zero_shard zero_hash zero_id zero_prev_ids zero_top zero_tops zero_entry zero_group zero_shard_group hash block mc sc candidate ask_call cand coll held_cache on_first with_prev_count with_tops_count with_held_entries with_held_masters on_group with_held_shards with_count unchanged altered peek_answer
+pub cached_edges : map peek_answer altered ≡ replicate 6 (refused Unsound) ++ (nothing ∷ [])
+unfolding step less_shard less_id after sound_model effect further call_on sound_cache same_cache same_data same_shard_group same_group same_master_group same_entry padded zero_shard zero_hash zero_id zero_prev_ids zero_top zero_tops zero_entry zero_group zero_shard_group hash block mc sc candidate ask_call cand coll held_cache on_first with_prev_count with_tops_count with_held_entries with_held_masters on_group with_held_shards with_count unchanged altered peek_answer
 cached_edges = refl

@@ -1,54 +1,53 @@
 -- What stands at a number, in a list of any element type: by the search, and after an element is put, or elements are retained.
 -- Assumes nothing.
+use Rattle.std.specs.List.{list_all, find}
+use Rattle.std.specs.Prelude.{Option, option_map, None, Some, map, cond, filter, Err, Ok, Result}
 use mathlib.Core.Bool.{Bool, not, true}
 use mathlib.Core.List.{List, [], ◌∷◌}
 use mathlib.Core.Logic.{◌≢◌}
-use mathlib.Core.Option.{Option, map, none, some}
 use mathlib.Core.Path.{◌∙◌, ◌≡◌, refl, sym}
 use Prim.Native.Nat.{◌≤◌, ℕ}
 use native.Mathlib.Omega.{arith}
 use borrow.Author.Tests.{eq-eqb, eqb-true, ltb-false, ltb-true, ne_eqb}
 use lib.Dec.{eqb, ltb}
-use Rattle.block_records.specs.declared.place.Place.{Place}
-use Rattle.block_records.specs.declared.place.Place.TheVariants.{At as place_at, Vacant as vacant_at}
 use Rattle.block_records.proofs.arrays.PlaceLaws.{next_place}
 use Rattle.block_records.proofs.rules.ListLaws.{every_select, every_weaken}
 use Rattle.block_records.proofs.rules.Tests.{and_left, and_right, not_true, on}
 use Rattle.block_records.specs.arrays.Place.{place}
-use Rattle.block_records.specs.rules.Lists.{each, every, find, pick, put, rising, select}
+use Rattle.block_records.specs.rules.Lists.{put, rising}
 use Rattle.blocks_group.proofs.arrays.SearchLaws.{seqno_place_cons}
 use Rattle.blocks_group.specs.arrays.Group.{at_place, when_found}
 use Rattle.blocks_group.specs.arrays.Search.{seqno_place}
 
 -- what stands at a place is found one place further with an element more in front
-pub at_next : {A : Type 0} (z x : A) (xs : List A) (p : Place) → when_found (next_place p) (at_place z (x ∷ xs) (next_place p)) ≡ when_found p (at_place z xs p)
-at_next z x xs (place_at k) = refl
-at_next z x xs (vacant_at k) = refl
+pub at_next : {A : Type 0} (z x : A) (xs : List A) (p : Result ℕ ℕ) → when_found (next_place p) (at_place z (x ∷ xs) (next_place p)) ≡ when_found p (at_place z xs p)
+at_next z x xs (Ok k) = refl
+at_next z x xs (Err k) = refl
 
 module _ {A B : Type 0} where
   -- a test of the images that says what a test of the elements says
-  pub find_each : (f : A → B) (p : A → Bool) (q : B → Bool) → ((x : A) → q (f x) ≡ p x) → (xs : List A) → find q (each f xs) ≡ map f (find p xs)
+  pub find_each : (f : A → B) (p : A → Bool) (q : B → Bool) → ((x : A) → q (f x) ≡ p x) → (xs : List A) → find q (map f xs) ≡ option_map f (find p xs)
   find_each f p q same [] = refl
   find_each f p q same (x ∷ xs) = on (p x) (λ t. rw (same x, t)) (λ t. rw (same x, t) (find_each f p q same xs))
 
 module _ {A : Type 0} where
   -- none passes in a list of which all fail
-  pub find_none : (p : A → Bool) (xs : List A) → every (λ (x : A). not (p x)) xs ≡ true → find p xs ≡ none
+  pub find_none : (p : A → Bool) (xs : List A) → list_all (λ (x : A). not (p x)) xs ≡ true → find p xs ≡ None
   find_none p [] h = refl
   find_none p (x ∷ xs) h =
-      rw (not_true (p x) (and_left (not (p x)) (every (λ (x : A). not (p x)) xs) h)) (find_none p xs (and_right (not (p x)) (every (λ (x : A). not (p x)) xs) h))
+      rw (not_true (p x) (and_left (not (p x)) (list_all (λ (x : A). not (p x)) xs) h)) (find_none p xs (and_right (not (p x)) (list_all (λ (x : A). not (p x)) xs) h))
 
   -- the one found, where it passes
   abbrev pub if_passes : (A → Bool) → Option A → Option A
-  if_passes p none = none
-  if_passes p (some a) = pick (p a) (some a) none
+  if_passes p None = None
+  if_passes p (Some a) = cond (p a) (Some a) None
 
 module _ {A : Type 0} (f : A → ℕ) where
   abbrev by_f : A → A → Bool
   by_f x y = ltb (f x) (f y)
 
   -- above a number that is not below n there is no n
-  find_above : (n : ℕ) (x : A) (xs : List A) → n ≤ f x → every (by_f x) xs ≡ true → find (λ (y : A). eqb (f y) n) xs ≡ none
+  find_above : (n : ℕ) (x : A) (xs : List A) → n ≤ f x → list_all (by_f x) xs ≡ true → find (λ (y : A). eqb (f y) n) xs ≡ None
   find_above n x xs l h =
       find_none (λ (y : A). eqb (f y) n) xs
       (every_weaken (by_f x) (λ (y : A). not (eqb (f y) n)) xs
@@ -56,21 +55,21 @@ module _ {A : Type 0} (f : A → ℕ) where
 
   -- ===== the search answers with what stands at the number =====
 
-  pub seqno_place_finds : (n : ℕ) (z : A) (xs : List A) → rising by_f xs ≡ true → when_found (seqno_place n (each f xs)) (at_place z xs (seqno_place n (each f xs))) ≡ find (λ (y : A). eqb (f y) n) xs
+  pub seqno_place_finds : (n : ℕ) (z : A) (xs : List A) → rising by_f xs ≡ true → when_found (seqno_place n (map f xs)) (at_place z xs (seqno_place n (map f xs))) ≡ find (λ (y : A). eqb (f y) n) xs
   unfolding place
   seqno_place_finds n z [] r = refl
   seqno_place_finds n z (x ∷ xs) r =
-      let above = and_left (every (by_f x) xs) (rising by_f xs) r in
-      let ih = seqno_place_finds n z xs (and_right (every (by_f x) xs) (rising by_f xs) r) in
-      rw (seqno_place_cons n (f x) (each f xs))
+      let above = and_left (list_all (by_f x) xs) (rising by_f xs) r in
+      let ih = seqno_place_finds n z xs (and_right (list_all (by_f x) xs) (rising by_f xs) r) in
+      rw (seqno_place_cons n (f x) (map f xs))
       (on (ltb (f x) n)
-      (λ t. let l = ltb-true (f x) n t in rw (t, ne_eqb (f x) n (λ e. omega arith)) (at_next z x xs (seqno_place n (each f xs)) ∙ ih))
+      (λ t. let l = ltb-true (f x) n t in rw (t, ne_eqb (f x) n (λ e. omega arith)) (at_next z x xs (seqno_place n (map f xs)) ∙ ih))
       (λ t. let l = ltb-false (f x) n t in
       rw t (on (eqb (f x) n) (λ u. rw u) (λ u. rw u (sym (find_above n x xs l above))))))
 
   -- ===== after an element is put =====
 
-  pub find_put_same : (a : A) (xs : List A) → find (λ (y : A). eqb (f y) (f a)) (put by_f a xs) ≡ some a
+  pub find_put_same : (a : A) (xs : List A) → find (λ (y : A). eqb (f y) (f a)) (put by_f a xs) ≡ Some a
   find_put_same a [] = rw (eq-eqb (f a) (f a) refl)
   find_put_same a (x ∷ xs) =
       on (by_f a x)
@@ -96,15 +95,15 @@ module _ {A : Type 0} (f : A → ℕ) where
 
   -- ===== after elements are retained =====
 
-  pub find_retained : (n : ℕ) (p : A → Bool) (xs : List A) → rising by_f xs ≡ true → find (λ (y : A). eqb (f y) n) (select p xs) ≡ if_passes p (find (λ (y : A). eqb (f y) n) xs)
+  pub find_retained : (n : ℕ) (p : A → Bool) (xs : List A) → rising by_f xs ≡ true → find (λ (y : A). eqb (f y) n) (filter p xs) ≡ if_passes p (find (λ (y : A). eqb (f y) n) xs)
   find_retained n p [] r = refl
   find_retained n p (x ∷ xs) r =
-      let above = and_left (every (by_f x) xs) (rising by_f xs) r in
-      let ih = find_retained n p xs (and_right (every (by_f x) xs) (rising by_f xs) r) in
+      let above = and_left (list_all (by_f x) xs) (rising by_f xs) r in
+      let ih = find_retained n p xs (and_right (list_all (by_f x) xs) (rising by_f xs) r) in
       on (eqb (f x) n)
       (λ t.
       let e = eqb-true (f x) n t in
       on (p x)
       (λ u. rw (t, u, t))
-      (λ u. rw (t, u) (find_above n x (select p xs) (omega arith) (every_select (by_f x) p xs above))))
+      (λ u. rw (t, u) (find_above n x (filter p xs) (omega arith) (every_select (by_f x) p xs above))))
       (λ t. on (p x) (λ u. rw (t, u, t) ih) (λ u. rw (t, u) ih))

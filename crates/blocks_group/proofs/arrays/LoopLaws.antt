@@ -1,5 +1,6 @@
 -- One turn of a loop over a group's listed entries: what is left at place i decides.
 -- Assumes nothing.
+use Rattle.std.specs.List.{list_all}
 use mathlib.Core.Bool.{Bool, ◌&&◌, ◌||◌, false, true}
 use mathlib.Core.List.{List, [], ◌∷◌}
 use mathlib.Core.Path.{◌∙◌, ◌≡◌, ap, refl, sym}
@@ -10,11 +11,11 @@ use lib.Dec.{eqb, leb, ltb}
 use lib.ListN.{drop, drop_of_length-le, get_or, length, take}
 use Rattle.block_records.specs.declared.entry.BlockCacheEntry.{BlockCacheEntry}
 use Rattle.block_records.specs.declared.entry.MasterBlock.{MasterBlock}
-use Rattle.block_records.specs.declared.top_block.TopBlocks.{TopBlocks}
+use Rattle.block_records.specs.layout.Listed.{TopBlocks}
 use Rattle.block_records.proofs.arrays.LoopLaws.{count_next, count_stop, drop_next, left, left_more, left_over, left_passed, rest_next, rest_stop}
 use Rattle.block_records.proofs.rules.ListLaws.{every_weaken}
 use Rattle.block_records.proofs.rules.Tests.{and_intro, and_left, and_right, clash, on}
-use Rattle.block_records.specs.rules.Lists.{every, rising}
+use Rattle.block_records.specs.rules.Lists.{rising}
 use Rattle.blocks_group.specs.arrays.Group.{beside}
 
 -- ===== seqnos rise: each above the one before it =====
@@ -25,11 +26,11 @@ module _ {A : Type 0} (f : A → ℕ) where
   rises_from lo [] = true
   rises_from lo (x ∷ xs) = ltb lo (f x) && rises_from (f x) xs
 
-  rises_is : (lo : ℕ) (xs : List A) → rises_from lo xs ≡ every (λ (y : A). ltb lo (f y)) xs && rising (λ (x y : A). ltb (f x) (f y)) xs
+  rises_is : (lo : ℕ) (xs : List A) → rises_from lo xs ≡ list_all (λ (y : A). ltb lo (f y)) xs && rising (λ (x y : A). ltb (f x) (f y)) xs
   rises_is lo [] = refl
   rises_is lo (x ∷ xs) =
       rw (rises_is (f x) xs)
-      (go (ltb lo (f x)) (every (λ (y : A). ltb (f x) (f y)) xs) (every (λ (y : A). ltb lo (f y)) xs) (rising (λ (x y : A). ltb (f x) (f y)) xs)
+      (go (ltb lo (f x)) (list_all (λ (y : A). ltb (f x) (f y)) xs) (list_all (λ (y : A). ltb lo (f y)) xs) (rising (λ (x y : A). ltb (f x) (f y)) xs)
       (λ p e. every_weaken (λ (y : A). ltb (f x) (f y)) (λ (y : A). ltb lo (f y)) xs (λ y q. lt-ltb lo (f y) (omega (arith, ltb-true lo (f x) p, ltb-true (f x) (f y) q))) e))
     where
       go : (a b c r : Bool) → (a ≡ true → b ≡ true → c ≡ true) → a && (b && r) ≡ (a && c) && (b && r)
@@ -65,16 +66,16 @@ module _ {A : Type 0} (p z : A → Bool) (f : A → ℕ) where
   walked zero first lo (x ∷ xs) = z x && walked zero first lo xs
   walked (suc n) first lo (x ∷ xs) = p x && ((first || ltb lo (f x)) && walked n false (f x) xs)
 
-  walked_zeros : (first : Bool) (lo : ℕ) (xs : List A) → walked zero first lo xs ≡ every z xs
+  walked_zeros : (first : Bool) (lo : ℕ) (xs : List A) → walked zero first lo xs ≡ list_all z xs
   walked_zeros first lo [] = refl
   walked_zeros first lo (x ∷ xs) = ap (λ (b : Bool). z x && b) (walked_zeros first lo xs)
 
-  walked_after : (n lo : ℕ) (xs : List A) → walked n false lo xs ≡ every p (take n xs) && (rises_from f lo (take n xs) && every z (drop n xs))
+  walked_after : (n lo : ℕ) (xs : List A) → walked n false lo xs ≡ list_all p (take n xs) && (rises_from f lo (take n xs) && list_all z (drop n xs))
   walked_after zero lo xs = walked_zeros false lo xs
   walked_after (suc n) lo [] = refl
   walked_after (suc n) lo (x ∷ xs) =
       ap (λ (b : Bool). p x && (ltb lo (f x) && b)) (walked_after n (f x) xs)
-      ∙ apart (p x) (ltb lo (f x)) (every p (take n xs)) (rises_from f (f x) (take n xs)) (every z (drop n xs))
+      ∙ apart (p x) (ltb lo (f x)) (list_all p (take n xs)) (rises_from f (f x) (take n xs)) (list_all z (drop n xs))
     where
       apart : (a l s r y : Bool) → a && (l && (s && (r && y))) ≡ (a && s) && ((l && r) && y)
       apart false l s r y = refl
@@ -82,12 +83,12 @@ module _ {A : Type 0} (p z : A → Bool) (f : A → ℕ) where
       apart true false true r y = refl
       apart true false false r y = refl
 
-  pub walked_all : (n lo : ℕ) (xs : List A) → walked n true lo xs ≡ every p (take n xs) && (rising (λ (x y : A). ltb (f x) (f y)) (take n xs) && every z (drop n xs))
+  pub walked_all : (n lo : ℕ) (xs : List A) → walked n true lo xs ≡ list_all p (take n xs) && (rising (λ (x y : A). ltb (f x) (f y)) (take n xs) && list_all z (drop n xs))
   walked_all zero lo xs = walked_zeros true lo xs
   walked_all (suc n) lo [] = refl
   walked_all (suc n) lo (x ∷ xs) =
-      ap (λ (b : Bool). p x && b) (walked_after n (f x) xs ∙ ap (λ (r : Bool). every p (take n xs) && (r && every z (drop n xs))) (rises_is f (f x) (take n xs)))
-      ∙ assoc (p x) (every p (take n xs)) (rising (λ (x y : A). ltb (f x) (f y)) (x ∷ take n xs) && every z (drop n xs))
+      ap (λ (b : Bool). p x && b) (walked_after n (f x) xs ∙ ap (λ (r : Bool). list_all p (take n xs) && (r && list_all z (drop n xs))) (rises_is f (f x) (take n xs)))
+      ∙ assoc (p x) (list_all p (take n xs)) (rising (λ (x y : A). ltb (f x) (f y)) (x ∷ take n xs) && list_all z (drop n xs))
     where
       assoc : (a b c : Bool) → a && (b && c) ≡ (a && b) && c
       assoc true b c = refl
@@ -178,19 +179,19 @@ module _ (p : MasterBlock → Bool) (bs : List BlockCacheEntry) (ts : List TopBl
   whole = beside_length bs ts same_length ∙ long
 
   pub masters_next : (d : BlockCacheEntry) (z : TopBlocks) (t : Bool) → i < 16 → i < count → t ≡ p (record { entry = get_or bs i d; tops = get_or ts i z }) → t ≡ true →
-      every p (left (beside bs ts) count i) ≡ every p (left (beside bs ts) count (i + 1))
+      list_all p (left (beside bs ts) count i) ≡ list_all p (left (beside bs ts) count (i + 1))
   masters_next d z t h k e y =
       let w = whole in
       count_next p (record { entry = d; tops = z }) (beside bs ts) count i (omega arith) k (ap p (beside_getD bs ts i d z same_length) ∙ sym e ∙ y)
 
   pub masters_stop : (d : BlockCacheEntry) (z : TopBlocks) (t : Bool) → i < 16 → i < count → t ≡ p (record { entry = get_or bs i d; tops = get_or ts i z }) → t ≡ false →
-      every p (left (beside bs ts) count i) ≡ false
+      list_all p (left (beside bs ts) count i) ≡ false
   masters_stop d z t h k e y =
       let w = whole in
       count_stop p (record { entry = d; tops = z }) (beside bs ts) count i (omega arith) k (ap p (beside_getD bs ts i d z same_length) ∙ sym e ∙ y)
 
-  pub masters_passed : count ≤ i → every p (left (beside bs ts) count i) ≡ true
+  pub masters_passed : count ≤ i → list_all p (left (beside bs ts) count i) ≡ true
   masters_passed h = rw (left_passed (beside bs ts) count i h)
 
-  pub masters_over : 16 ≤ i → every p (left (beside bs ts) count i) ≡ true
+  pub masters_over : 16 ≤ i → list_all p (left (beside bs ts) count i) ≡ true
   masters_over h = let w = whole in rw (left_over (beside bs ts) count i (omega arith))

@@ -1,5 +1,6 @@
 -- Put by a number: the element goes in where the search finds its place, and fits unless the places are full and none has its number.
 -- Assumes nothing.
+use Rattle.std.specs.Prelude.{map, Err, Ok, Result}
 use mathlib.Core.Bool.{Bool, false, not, true}
 use mathlib.Core.List.{List}
 use mathlib.Core.Path.{◌∙◌, ◌≡◌, sym}
@@ -8,14 +9,12 @@ use native.Mathlib.Omega.{arith}
 use borrow.Author.Tests.{eq-eqb, le-ltb, lt-leb, ltb-false, ltb-true, ne_eqb}
 use lib.Dec.{eqb, leb, ltb}
 use lib.ListN.{length}
-use Rattle.block_records.specs.declared.place.Place.{Place}
-use Rattle.block_records.specs.declared.place.Place.TheVariants.{At as place_at, Vacant as vacant_at}
 use Rattle.block_records.proofs.arrays.ArrayLaws.{length_spliced}
 use Rattle.block_records.proofs.arrays.PlaceLaws.{at_within, inserted_few, inserts, place_each, put_inserts, put_replaces, replaced_few, replaces, vacant_within}
 use Rattle.block_records.proofs.rules.Tests.{on}
 use Rattle.block_records.specs.arrays.Arrays.{Splices, spliced}
 use Rattle.block_records.specs.arrays.Place.{place}
-use Rattle.block_records.specs.rules.Lists.{each, put}
+use Rattle.block_records.specs.rules.Lists.{put}
 use Rattle.blocks_group.specs.arrays.Search.{number_below, number_is, seqno_place}
 
 module _ {A : Type 0} (size : ℕ) (f : A → ℕ) (a : A) where
@@ -36,17 +35,17 @@ module _ {A : Type 0} (size : ℕ) (f : A → ℕ) (a : A) where
       (λ u. let m = ltb-false (f a) (f x) u in rw (u, eq-eqb (f x) (f a) (omega arith)))
 
   -- the search over the numbers is one over the elements
-  by_number_place : (xs : List A) (p : Place) → seqno_place (f a) (each f xs) ≡ p → place (λ (x : A). by_f x a) same_f xs ≡ p
+  by_number_place : (xs : List A) (p : Result ℕ ℕ) → seqno_place (f a) (map f xs) ≡ p → place (λ (x : A). by_f x a) same_f xs ≡ p
   by_number_place xs p e = sym (place_each f (number_below (f a)) (number_is (f a)) xs) ∙ e
 
   -- ===== the number stands at k =====
 
-  module _ (xs : List A) (k : ℕ) (e : seqno_place (f a) (each f xs) ≡ place_at k) where
+  module _ (xs : List A) (k : ℕ) (e : seqno_place (f a) (map f xs) ≡ Ok k) where
     pub found_below : k < length xs
-    found_below = at_within (λ (x : A). by_f x a) same_f xs k (by_number_place xs (place_at k) e)
+    found_below = at_within (λ (x : A). by_f x a) same_f xs k (by_number_place xs (Ok k) e)
 
     pub put_found : put by_f a xs ≡ spliced k (k + 1) a xs
-    put_found = put_replaces by_f a same_f once level xs k (by_number_place xs (place_at k) e)
+    put_found = put_replaces by_f a same_f once level xs k (by_number_place xs (Ok k) e)
 
     pub found_splices : length xs ≤ size → Splices size k (k + 1) (length xs)
     found_splices h = replaces size a xs h k found_below
@@ -56,12 +55,12 @@ module _ {A : Type 0} (size : ℕ) (f : A → ℕ) (a : A) where
 
   -- ===== its place, k, is vacant =====
 
-  module _ (xs : List A) (k : ℕ) (e : seqno_place (f a) (each f xs) ≡ vacant_at k) where
+  module _ (xs : List A) (k : ℕ) (e : seqno_place (f a) (map f xs) ≡ Err k) where
     within : k ≤ length xs
-    within = vacant_within (λ (x : A). by_f x a) same_f xs k (by_number_place xs (vacant_at k) e)
+    within = vacant_within (λ (x : A). by_f x a) same_f xs k (by_number_place xs (Err k) e)
 
     pub put_vacant : put by_f a xs ≡ spliced k k a xs
-    put_vacant = put_inserts by_f a same_f once level xs k (by_number_place xs (vacant_at k) e)
+    put_vacant = put_inserts by_f a same_f once level xs k (by_number_place xs (Err k) e)
 
     pub vacant_splices : length xs < size → Splices size k k (length xs)
     vacant_splices h = inserts size a xs (omega arith) k within h

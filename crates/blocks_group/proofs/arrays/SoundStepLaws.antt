@@ -1,5 +1,6 @@
 -- What is done to a sound group leaves it sound: each is a rule of the model, packed, and the rules leave the model sound (GroupLaws).
 -- Assumes nothing.
+use Rattle.std.specs.Prelude.{map, filter, None, Option, Some}
 use mathlib.Core.Bool.{Bool, ◌&&◌, true}
 use mathlib.Core.List.{List, [], ◌∷◌}
 use mathlib.Core.Path.{◌∙◌, ◌≡◌, ap, refl, sym}
@@ -9,20 +10,17 @@ use lib.ListN.{length}
 use Rattle.block_records.specs.declared.block_id.BlockIdShort.{BlockIdShort}
 use Rattle.block_records.specs.declared.block_id.ShardIdent.{ShardIdent}
 use Rattle.block_records.specs.declared.entry.BlockCacheEntry.{BlockCacheEntry}
-use Rattle.blocks_group.specs.declared.group.Boundary.{Boundary}
-use Rattle.blocks_group.specs.declared.group.Boundary.TheVariants.{Absent as no_boundary, At as boundary_at}
 use Rattle.blocks_group.specs.declared.group.Group.{Group}
 use Rattle.blocks_group.specs.declared.group.MasterGroup.{MasterGroup}
 use Rattle.blocks_group.specs.declared.group.Retained.{Retained}
 use Rattle.blocks_group.specs.declared.group.Retained.TheVariants.{From as retain_from}
-use Rattle.blocks_group.specs.declared.mark.Mark.TheVariants.{Absent as no_mark}
 use Rattle.block_records.proofs.arrays.LoopLaws.{padded_nil}
 use Rattle.block_records.proofs.rules.Tests.{and_intro, and_right, on}
 use Rattle.block_records.specs.layout.Entry.{pack_entry, pack_master, view_shard_entry}
 use Rattle.block_records.specs.layout.Zeros.{zero_entry, zero_tops}
 use Rattle.block_records.specs.rules.BlockId.{is_masterchain, key_shard}
 use Rattle.block_records.specs.rules.Entry.{Entry}
-use Rattle.block_records.specs.rules.Lists.{each, put, select}
+use Rattle.block_records.specs.rules.Lists.{put}
 use Rattle.blocks_group.proofs.arrays.GroupLaws.{put_entry_packed, put_master_packed, retain_entries_packed, retain_masters_packed}
 use Rattle.blocks_group.proofs.arrays.SoundnessLaws.{sound_group_packed, sound_master_group_packed}
 use Rattle.blocks_group.proofs.layout.GroupLaws.{group_same, master_group_same, view_pack_group, view_pack_master_group}
@@ -48,7 +46,7 @@ pack_masters_sound m s =
 
 zero_packed : zero_group ≡ pack_group empty_group
 unfolding zero_group
-zero_packed = λ i. record { entries = sym (padded_nil 16 zero_entry) i; count = 0; mark = no_mark; boundary = no_boundary }
+zero_packed = λ i. record { entries = sym (padded_nil 16 zero_entry) i; count = 0; mark = None; boundary = None }
 
 zero_masters_packed : zero_master_group ≡ pack_master_group empty_group
 unfolding zero_master_group
@@ -63,11 +61,11 @@ zero_master_group_sound = ap sound_master_group zero_masters_packed ∙ pack_mas
 -- ===== a shard's group =====
 
 -- what is viewed of a shard's group has no top item
-viewed_no_tops : (bs : List BlockCacheEntry) → NoTops (each view_shard_entry bs)
+viewed_no_tops : (bs : List BlockCacheEntry) → NoTops (map view_shard_entry bs)
 viewed_no_tops [] = tt
 viewed_no_tops (b ∷ bs) = (refl, viewed_no_tops bs)
 
-no_tops_select : (q : Entry → Bool) (es : List Entry) → NoTops es → NoTops (select q es)
+no_tops_select : (q : Entry → Bool) (es : List Entry) → NoTops es → NoTops (filter q es)
 no_tops_select q [] h = tt
 no_tops_select q (e ∷ es) h = on (q e) (λ t. rw t (h.0, no_tops_select q es h.1)) (λ t. rw t (no_tops_select q es h.1))
 
@@ -96,7 +94,7 @@ module _ (p : ShardIdent → Bool) (g : Group) (s : sound_group p g ≡ true) wh
   retained_sound r =
       let q : Entry → Bool = λ e. retains r (pack_entry e) in
       ap (λ (x : Group). sound_group p (retain_entries r x)) packed ∙ ap (sound_group p) (retain_entries_packed r q (λ e. refl) viewed)
-      ∙ pack_sound p (with_entries (select q viewed.entries) viewed) (no_tops_select q viewed.entries no_tops) (group_select p q viewed model_sound)
+      ∙ pack_sound p (with_entries (filter q viewed.entries) viewed) (no_tops_select q viewed.entries no_tops) (group_select p q viewed model_sound)
 
   pub put_sound : (e : Entry) → e.tops ≡ [] → fits_in p e ≡ true → sound_group p (put_entry (pack_entry e) g) ≡ true
   put_sound e n ok =
@@ -114,9 +112,9 @@ module _ (p : ShardIdent → Bool) (g : Group) (s : sound_group p g ≡ true) wh
   pub collect_sound : sound_group p (collect_group g) ≡ true
   collect_sound = by g.boundary
     where
-      by : (b : Boundary) → sound_group p (collected_by b g) ≡ true
-      by no_boundary = s
-      by (boundary_at k) = retained_sound (retain_from k.seqno)
+      by : (b : Option BlockIdShort) → sound_group p (collected_by b g) ≡ true
+      by None = s
+      by (Some k) = retained_sound (retain_from k.seqno)
 
 -- ===== the master group =====
 
@@ -134,7 +132,7 @@ module _ (g : MasterGroup) (s : sound_master_group g ≡ true) where
   retained_masters_sound r =
       let q : Entry → Bool = λ e. retains r (pack_entry e) in
       ap (λ (x : MasterGroup). sound_master_group (retain_masters r x)) packed_masters ∙ ap sound_master_group (retain_masters_packed r q (λ e. refl) viewed_masters)
-      ∙ pack_masters_sound (with_entries (select q viewed_masters.entries) viewed_masters) (group_select is_masterchain q viewed_masters masters_model_sound)
+      ∙ pack_masters_sound (with_entries (filter q viewed_masters.entries) viewed_masters) (group_select is_masterchain q viewed_masters masters_model_sound)
 
   pub put_master_sound : (e : Entry) → fits_in is_masterchain e ≡ true → sound_master_group (put_master (pack_master e) g) ≡ true
   put_master_sound e ok =
@@ -153,6 +151,6 @@ module _ (g : MasterGroup) (s : sound_master_group g ≡ true) where
   pub collect_masters_sound : sound_master_group (collect_masters g) ≡ true
   collect_masters_sound = by g.group.boundary
     where
-      by : (b : Boundary) → sound_master_group (masters_collected_by b g) ≡ true
-      by no_boundary = s
-      by (boundary_at k) = retained_masters_sound (retain_from k.seqno)
+      by : (b : Option BlockIdShort) → sound_master_group (masters_collected_by b g) ≡ true
+      by None = s
+      by (Some k) = retained_masters_sound (retain_from k.seqno)

@@ -1,5 +1,7 @@
 -- Question 1 of a group, as it is defined and as the code asks it part by part, is the same; a sound group is the packing of its view.
 -- Assumes nothing.
+use Rattle.std.specs.List.{list_all}
+use Rattle.std.specs.Prelude.{map, None}
 use mathlib.Core.Bool.{Bool, ◌&&◌, false, true}
 use mathlib.Core.List.{List, [], ◌∷◌}
 use mathlib.Core.Path.{◌∙◌, ◌≡◌, ap, ap₂, refl, sym}
@@ -11,11 +13,9 @@ use lib.ListN.{length, take}
 use Rattle.block_records.specs.declared.block_id.ShardIdent.{ShardIdent}
 use Rattle.block_records.specs.declared.entry.BlockCacheEntry.{BlockCacheEntry}
 use Rattle.block_records.specs.declared.entry.MasterBlock.{MasterBlock}
-use Rattle.block_records.specs.declared.top_block.TopBlocks.{TopBlocks}
-use Rattle.blocks_group.specs.declared.group.Boundary.TheVariants.{Absent as no_boundary}
+use Rattle.block_records.specs.layout.Listed.{TopBlocks}
 use Rattle.blocks_group.specs.declared.group.Group.{Group}
 use Rattle.blocks_group.specs.declared.group.MasterGroup.{MasterGroup}
-use Rattle.blocks_group.specs.declared.mark.Mark.TheVariants.{Absent as no_mark}
 use Rattle.block_records.proofs.layout.EqualityLaws.{tops_same}
 use Rattle.block_records.proofs.layout.QuestionLaws.{held_fits_is}
 use Rattle.block_records.proofs.layout.TidyLaws.{every_same, same_replicate}
@@ -26,7 +26,7 @@ use Rattle.block_records.specs.layout.Equality.{same_entry}
 use Rattle.block_records.specs.layout.Zeros.{is_zero_entry, zero_entry, zero_tops}
 use Rattle.block_records.specs.rules.BlockId.{id_shard, is_masterchain, listed_tops}
 use Rattle.block_records.specs.rules.Entry.{Entry}
-use Rattle.block_records.specs.rules.Lists.{each, every, padded, rising}
+use Rattle.block_records.specs.rules.Lists.{padded, rising}
 use Rattle.block_records.specs.rules.Questions.{entry_fits}
 use Rattle.blocks_group.proofs.arrays.GroupStepLaws.{listed_few, masters_entries, masters_length, masters_tops}
 use Rattle.blocks_group.proofs.arrays.LoopLaws.{walked, walked_all}
@@ -63,9 +63,9 @@ in_parts true true true true true true false b = refl
 in_parts true true true true true false false b = refl
 
 module _ {A : Type 0} where
-  every_both : (p q : A → Bool) (xs : List A) → every p xs && every q xs ≡ every (λ (x : A). p x && q x) xs
+  every_both : (p q : A → Bool) (xs : List A) → list_all p xs && list_all q xs ≡ list_all (λ (x : A). p x && q x) xs
   every_both p q [] = refl
-  every_both p q (x ∷ xs) = swap (p x) (every p xs) (q x) (every q xs) ∙ ap (λ (b : Bool). (p x && q x) && b) (every_both p q xs)
+  every_both p q (x ∷ xs) = swap (p x) (list_all p xs) (q x) (list_all q xs) ∙ ap (λ (b : Bool). (p x && q x) && b) (every_both p q xs)
     where
       swap : (a b c d : Bool) → (a && b) && (c && d) ≡ (a && c) && (b && d)
       swap false b c d = refl
@@ -74,11 +74,11 @@ module _ {A : Type 0} where
       swap true false false d = refl
 
 module _ {A B : Type 0} where
-  every_image : (f : A → B) (p : B → Bool) (xs : List A) → every p (each f xs) ≡ every (λ (x : A). p (f x)) xs
+  every_image : (f : A → B) (p : B → Bool) (xs : List A) → list_all p (map f xs) ≡ list_all (λ (x : A). p (f x)) xs
   every_image f p [] = refl
   every_image f p (x ∷ xs) = ap (λ (b : Bool). p (f x) && b) (every_image f p xs)
 
-  rising_image : (f : A → B) (lt : B → B → Bool) (xs : List A) → rising lt (each f xs) ≡ rising (λ (x y : A). lt (f x) (f y)) xs
+  rising_image : (f : A → B) (lt : B → B → Bool) (xs : List A) → rising lt (map f xs) ≡ rising (λ (x y : A). lt (f x) (f y)) xs
   rising_image f lt [] = refl
   rising_image f lt (x ∷ xs) = ap₂ ◌&&◌ (every_image f (lt (f x)) xs) (rising_image f lt xs)
 
@@ -99,13 +99,13 @@ record_asked p b =
 pub sound_group_parts : (p : ShardIdent → Bool) (g : Group) → length g.entries ≡ 16 → sound_group p g ≡ sound_group_by_parts p g
 sound_group_parts p g long =
     let l = listed_entries g in
-    let n : leb (length (each view_shard_entry l)) 16 ≡ true = le-leb (length (each view_shard_entry l)) 16 (omega (arith, length_each view_shard_entry l, listed_few g long)) in
-    let e : every entry_tidy l && every (fits_in p) (each view_shard_entry l) ≡ every (sound_entry p) l =
-    ap (λ (b : Bool). every entry_tidy l && b) (every_image view_shard_entry (fits_in p) l) ∙ every_both entry_tidy (λ (b : BlockCacheEntry). fits_in p (view_shard_entry b)) l
+    let n : leb (length (map view_shard_entry l)) 16 ≡ true = le-leb (length (map view_shard_entry l)) 16 (omega (arith, length_each view_shard_entry l, listed_few g long)) in
+    let e : list_all entry_tidy l && list_all (fits_in p) (map view_shard_entry l) ≡ list_all (sound_entry p) l =
+    ap (λ (b : Bool). list_all entry_tidy l && b) (every_image view_shard_entry (fits_in p) l) ∙ every_both entry_tidy (λ (b : BlockCacheEntry). fits_in p (view_shard_entry b)) l
     ∙ every_same (λ (b : BlockCacheEntry). entry_tidy b && fits_in p (view_shard_entry b)) (sound_entry p) l (λ b u. record_asked p b) in
     ap (λ (t : Bool). t && sound_group_model p (view_group g)) (group_tidy_is g long ∙ sym (and_true _))
-    ∙ ap (λ (m : Bool). ((leb g.count 16 && (every entry_tidy l && entries_zero_beyond g.count g.entries)) && true) && (m && (rising entry_before (each view_shard_entry l) && (every (fits_in p) (each view_shard_entry l) && held_boundary_in p g.boundary)))) n
-    ∙ in_parts (leb g.count 16) (every entry_tidy l) (entries_zero_beyond g.count g.entries) true true (rising entry_before (each view_shard_entry l)) (every (fits_in p) (each view_shard_entry l)) (held_boundary_in p g.boundary)
+    ∙ ap (λ (m : Bool). ((leb g.count 16 && (list_all entry_tidy l && entries_zero_beyond g.count g.entries)) && true) && (m && (rising entry_before (map view_shard_entry l) && (list_all (fits_in p) (map view_shard_entry l) && held_boundary_in p g.boundary)))) n
+    ∙ in_parts (leb g.count 16) (list_all entry_tidy l) (entries_zero_beyond g.count g.entries) true true (rising entry_before (map view_shard_entry l)) (list_all (fits_in p) (map view_shard_entry l)) (held_boundary_in p g.boundary)
     ∙ ap₂ (λ (a r : Bool). leb g.count 16 && (a && (r && (entries_zero_beyond g.count g.entries && held_boundary_in p g.boundary)))) e (rising_image view_shard_entry entry_before l)
 
 -- with the count and the boundary right, what the loop over the places tests
@@ -114,8 +114,8 @@ module _ (p : ShardIdent → Bool) (g : Group) (long : length g.entries ≡ 16) 
   sound_by_walk c b =
       let l = listed_entries g in
       sound_group_parts p g long
-      ∙ ap₂ (λ (x y : Bool). x && (every (sound_entry p) l && (rising held_before l && (entries_zero_beyond g.count g.entries && y)))) (le-leb g.count 16 c) b
-      ∙ ap (λ (x : Bool). every (sound_entry p) l && (rising held_before l && x)) (and_true (entries_zero_beyond g.count g.entries))
+      ∙ ap₂ (λ (x y : Bool). x && (list_all (sound_entry p) l && (rising held_before l && (entries_zero_beyond g.count g.entries && y)))) (le-leb g.count 16 c) b
+      ∙ ap (λ (x : Bool). list_all (sound_entry p) l && (rising held_before l && x)) (and_true (entries_zero_beyond g.count g.entries))
       ∙ sym (walked_all (sound_entry p) is_zero_entry held_seqno g.count 0 g.entries)
 
   pub unsound_count : 16 < g.count → sound_group p g ≡ false
@@ -125,8 +125,8 @@ module _ (p : ShardIdent → Bool) (g : Group) (long : length g.entries ≡ 16) 
   unsound_boundary b =
       let l = listed_entries g in
       sound_group_parts p g long
-      ∙ ap (λ (y : Bool). leb g.count 16 && (every (sound_entry p) l && (rising held_before l && (entries_zero_beyond g.count g.entries && y)))) b
-      ∙ none (leb g.count 16) (every (sound_entry p) l) (rising held_before l) (entries_zero_beyond g.count g.entries)
+      ∙ ap (λ (y : Bool). leb g.count 16 && (list_all (sound_entry p) l && (rising held_before l && (entries_zero_beyond g.count g.entries && y)))) b
+      ∙ none (leb g.count 16) (list_all (sound_entry p) l) (rising held_before l) (entries_zero_beyond g.count g.entries)
     where
       none : (a b c d : Bool) → a && (b && (c && (d && false))) ≡ false
       none a b c d = rw (and_false d, and_false c, and_false b) (and_false a)
@@ -136,7 +136,7 @@ module _ (p : ShardIdent → Bool) (g : Group) (long : length g.entries ≡ 16) 
 abbrev view_master : MasterBlock → Entry
 view_master b = view_entry b.entry (listed_tops b.tops)
 
-view_beside : (bs : List BlockCacheEntry) (ts : List TopBlocks) → view_masters bs ts ≡ each view_master (beside bs ts)
+view_beside : (bs : List BlockCacheEntry) (ts : List TopBlocks) → view_masters bs ts ≡ map view_master (beside bs ts)
 view_beside [] ts = refl
 view_beside (b ∷ bs) [] = refl
 view_beside (b ∷ bs) (t ∷ ts) = ap (λ (r : List Entry). view_entry b (listed_tops t) ∷ r) (view_beside bs ts)
@@ -156,25 +156,25 @@ sound_master_group_parts g long long_tops =
     let z = entries_zero_beyond k g.group.entries in
     let y = tops_zero_beyond k g.tops in
     let b = held_boundary_in is_masterchain g.group.boundary in
-    let v : view_masters (take k g.group.entries) g.tops ≡ each view_master l = view_beside (take k g.group.entries) g.tops in
-    let n : leb (length (each view_master l)) 16 ≡ true =
-    le-leb (length (each view_master l)) 16 (omega (arith, length_each view_master l, masters_length g long long_tops, listed_few g.group long)) in
-    let t : every entry_tidy (listed_entries g.group) ≡ every (λ (b : MasterBlock). entry_tidy b.entry) l =
-    ap (every entry_tidy) (sym (masters_entries g long long_tops)) ∙ every_image (λ (b : MasterBlock). b.entry) entry_tidy l in
-    let i : every tops_tidy (take k g.tops) ≡ every (λ (b : MasterBlock). tops_tidy b.tops) l =
-    ap (every tops_tidy) (sym (masters_tops g long long_tops)) ∙ every_image (λ (b : MasterBlock). b.tops) tops_tidy l in
+    let v : view_masters (take k g.group.entries) g.tops ≡ map view_master l = view_beside (take k g.group.entries) g.tops in
+    let n : leb (length (map view_master l)) 16 ≡ true =
+    le-leb (length (map view_master l)) 16 (omega (arith, length_each view_master l, masters_length g long long_tops, listed_few g.group long)) in
+    let t : list_all entry_tidy (listed_entries g.group) ≡ list_all (λ (b : MasterBlock). entry_tidy b.entry) l =
+    ap (list_all entry_tidy) (sym (masters_entries g long long_tops)) ∙ every_image (λ (b : MasterBlock). b.entry) entry_tidy l in
+    let i : list_all tops_tidy (take k g.tops) ≡ list_all (λ (b : MasterBlock). tops_tidy b.tops) l =
+    ap (list_all tops_tidy) (sym (masters_tops g long long_tops)) ∙ every_image (λ (b : MasterBlock). b.tops) tops_tidy l in
     let f = every_image view_master (fits_in is_masterchain) l in
-    let r : rising entry_before (each view_master l) ≡ rising held_before (listed_entries g.group) =
+    let r : rising entry_before (map view_master l) ≡ rising held_before (listed_entries g.group) =
     rising_image view_master entry_before l ∙ sym (rising_image (λ (b : MasterBlock). b.entry) held_before l) ∙ ap (rising held_before) (masters_entries g long long_tops) in
-    let e : every entry_tidy (listed_entries g.group) && (every tops_tidy (take k g.tops) && every (fits_in is_masterchain) (each view_master l)) ≡ every sound_master l =
+    let e : list_all entry_tidy (listed_entries g.group) && (list_all tops_tidy (take k g.tops) && list_all (fits_in is_masterchain) (map view_master l)) ≡ list_all sound_master l =
     ap₂ ◌&&◌ t (ap₂ ◌&&◌ i f ∙ every_both (λ (b : MasterBlock). tops_tidy b.tops) (λ (b : MasterBlock). fits_in is_masterchain (view_master b)) l)
     ∙ every_both (λ (b : MasterBlock). entry_tidy b.entry) (λ (b : MasterBlock). tops_tidy b.tops && fits_in is_masterchain (view_master b)) l
     ∙ every_same (λ (b : MasterBlock). entry_tidy b.entry && (tops_tidy b.tops && fits_in is_masterchain (view_master b))) sound_master l (λ b u. master_asked b) in
-    let q = master_group_tidy_is g long long_tops ∙ ap (λ (t : Bool). t && (every tops_tidy (take k g.tops) && y)) (group_tidy_is g.group long) in
+    let q = master_group_tidy_is g long long_tops ∙ ap (λ (t : Bool). t && (list_all tops_tidy (take k g.tops) && y)) (group_tidy_is g.group long) in
     ap₂ ◌&&◌ q
-    (ap (λ (es : List Entry). leb (length es) 16 && (rising entry_before es && (every (fits_in is_masterchain) es && b))) v
-    ∙ ap (λ (m : Bool). m && (rising entry_before (each view_master l) && (every (fits_in is_masterchain) (each view_master l) && b))) n)
-    ∙ in_parts (leb k 16) (every entry_tidy (listed_entries g.group)) z (every tops_tidy (take k g.tops)) y (rising entry_before (each view_master l)) (every (fits_in is_masterchain) (each view_master l)) b
+    (ap (λ (es : List Entry). leb (length es) 16 && (rising entry_before es && (list_all (fits_in is_masterchain) es && b))) v
+    ∙ ap (λ (m : Bool). m && (rising entry_before (map view_master l) && (list_all (fits_in is_masterchain) (map view_master l) && b))) n)
+    ∙ in_parts (leb k 16) (list_all entry_tidy (listed_entries g.group)) z (list_all tops_tidy (take k g.tops)) y (rising entry_before (map view_master l)) (list_all (fits_in is_masterchain) (map view_master l)) b
     ∙ ap₂ (λ (a o : Bool). leb k 16 && (a && (o && (z && (y && b))))) e r
 
 -- ===== a sound group is the packing of its view =====
@@ -192,10 +192,10 @@ pub zero_count : (n : ℕ) (m b : Bool) (zeros : ℕ → Bool) → eqb n 0 && (m
 zero_count n m b zeros = on (eqb n 0) (λ t. rw (eqb-true n 0 t)) (λ t. rw t)
 
 pub is_zero_group_parts : (g : Group) → length g.entries ≡ 16 →
-    is_zero_group g ≡ eqb g.count 0 && (same_mark g.mark no_mark && (same_boundary g.boundary no_boundary && entries_zero_beyond g.count g.entries))
+    is_zero_group g ≡ eqb g.count 0 && (same_mark g.mark None && (same_boundary g.boundary None && entries_zero_beyond g.count g.entries))
 unfolding same_group zero_group
 is_zero_group_parts g l =
-    let m = same_mark g.mark no_mark in
-    let b = same_boundary g.boundary no_boundary in
+    let m = same_mark g.mark None in
+    let b = same_boundary g.boundary None in
     ap (λ (z : Bool). eqb g.count 0 && (m && (b && z))) (same_replicate same_entry zero_entry 16 g.entries l)
     ∙ sym (zero_count g.count m b (λ (n : ℕ). entries_zero_beyond n g.entries))

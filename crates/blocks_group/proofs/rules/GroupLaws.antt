@@ -1,10 +1,11 @@
 -- One group: what a change leaves sound, what stands at a seqno, and that a shard's sound group has no top items.
 -- Assumes nothing.
+use Rattle.std.specs.List.{list_all}
+use Rattle.std.specs.Prelude.{Option, None, Some, is_some, filter}
 use mathlib.Core.Bool.{Bool, ◌||◌, false, not, true}
 use mathlib.Core.List.Memᴰ
 use mathlib.Core.List.{List, Memᴰ, [], ◌∷◌}
 use mathlib.Core.Logic.{◌↔◌, ◌≢◌, ◌⊎◌, inl, inr}
-use mathlib.Core.Option.{Option, none, some}
 use mathlib.Core.Path.{◌∙◌, ◌≡◌, refl, sym}
 use Prim.Native.Nat.{◌<◌, ◌≤◌, ℕ}
 use native.Mathlib.Omega.{arith}
@@ -22,7 +23,7 @@ use Rattle.block_records.proofs.rules.ListLaws.{by_number, every_member, every_p
 use Rattle.block_records.proofs.rules.Tests.{and_intro, and_left, and_right, clash, not_true, on}
 use Rattle.block_records.specs.rules.BlockId.{id_shard, is_masterchain, key_shard, same_id, same_shard}
 use Rattle.block_records.specs.rules.Entry.{Entry, fresh_collated, fresh_received}
-use Rattle.block_records.specs.rules.Lists.{every, present, put, rising, select}
+use Rattle.block_records.specs.rules.Lists.{put, rising}
 use Rattle.block_records.specs.rules.Questions.{entry_fits}
 use Rattle.blocks_group.specs.rules.Group.{GroupModel, at_seqno, changed_entries, entry_before, has_seqno, store_collated_at, store_received_at, with_boundary, with_entries, without}
 use Rattle.blocks_group.specs.rules.Soundness.{boundary_in, fits_in, of_shard, sound_group_model}
@@ -30,7 +31,7 @@ use Rattle.blocks_group.specs.rules.Soundness.{boundary_in, fits_in, of_shard, s
 pub record GroupParts (p : ShardIdent → Bool) (g : GroupModel) : Type 0 where
   pub count : leb (length g.entries) 16 ≡ true
   pub order : rising entry_before g.entries ≡ true
-  pub fit : every (fits_in p) g.entries ≡ true
+  pub fit : list_all (fits_in p) g.entries ≡ true
   pub bound : boundary_in p g.boundary ≡ true
 
 pub group_parts : (p : ShardIdent → Bool) (g : GroupModel) → sound_group_model p g ≡ true → GroupParts p g
@@ -42,12 +43,12 @@ group_whole p g h = and_intro h.count (and_intro h.order (and_intro h.fit h.boun
 abbrev pub entry_seqno : Entry → ℕ
 entry_seqno e = e.id.seqno
 
-pub group_select : (p : ShardIdent → Bool) (q : Entry → Bool) (g : GroupModel) → sound_group_model p g ≡ true → sound_group_model p (with_entries (select q g.entries) g) ≡ true
+pub group_select : (p : ShardIdent → Bool) (q : Entry → Bool) (g : GroupModel) → sound_group_model p g ≡ true → sound_group_model p (with_entries (filter q g.entries) g) ≡ true
 group_select p q g h =
     let a = group_parts p g h in
-    group_whole p (with_entries (select q g.entries) g)
+    group_whole p (with_entries (filter q g.entries) g)
     (record {
-      count = le-leb (length (select q g.entries)) 16 (omega (arith, length_select q g.entries, leb-true (length g.entries) 16 a.count));
+      count = le-leb (length (filter q g.entries)) 16 (omega (arith, length_select q g.entries, leb-true (length g.entries) 16 a.count));
       order = rising_select entry_before q g.entries a.order;
       fit = every_select (fits_in p) q g.entries a.fit;
       bound = a.bound;
@@ -73,18 +74,18 @@ group_bound p k g s h =
 
 -- an entry, if there is one, is of the group and of the seqno
 abbrev pub FitsAt : (ShardIdent → Bool) → ℕ → Option Entry → Type 0
-FitsAt p n none = Unit {0}
-FitsAt p n (some e) = (fits_in p e ≡ true) × (e.id.seqno ≡ n)
+FitsAt p n None = Unit {0}
+FitsAt p n (Some e) = (fits_in p e ≡ true) × (e.id.seqno ≡ n)
 
 pub at_seqno_fits : (p : ShardIdent → Bool) (n : ℕ) (g : GroupModel) (o : Option Entry) → sound_group_model p g ≡ true → at_seqno n g.entries ≡ o → FitsAt p n o
-at_seqno_fits p n g none h f = tt
-at_seqno_fits p n g (some e) h f = (
+at_seqno_fits p n g None h f = tt
+at_seqno_fits p n g (Some e) h f = (
   every_member (fits_in p) g.entries (group_parts p g h).fit (find_member (has_seqno n) g.entries f),
   eqb-true e.id.seqno n (find_passes (has_seqno n) g.entries f),
 )
 
 -- an entry put at an occupied place takes no new place
-put_same : (n : ℕ) (e x : Entry) (g : GroupModel) → rising entry_before g.entries ≡ true → at_seqno n g.entries ≡ some x → e.id.seqno ≡ n →
+put_same : (n : ℕ) (e x : Entry) (g : GroupModel) → rising entry_before g.entries ≡ true → at_seqno n g.entries ≡ Some x → e.id.seqno ≡ n →
     length (put entry_before e g.entries) ≤ length g.entries
 put_same n e x g r f s =
     let t = eqb-true x.id.seqno n (find_passes (has_seqno n) g.entries f) in
@@ -92,41 +93,41 @@ put_same n e x g r f s =
     (le-ltb e.id.seqno x.id.seqno (omega arith)) (le-ltb x.id.seqno e.id.seqno (omega arith))
 
 pub put_fits : (n : ℕ) (e : Entry) (g : GroupModel) (o : Option Entry) → rising entry_before g.entries ≡ true → length g.entries ≤ 16 → at_seqno n g.entries ≡ o →
-    e.id.seqno ≡ n → present o || ltb (length g.entries) 16 ≡ true → length (put entry_before e g.entries) ≤ 16
-put_fits n e g none rises few f s room = omega (arith, length_put entry_before e g.entries, ltb-true (length g.entries) 16 room)
-put_fits n e g (some x) rises few f s room = omega (arith, put_same n e x g rises f s)
+    e.id.seqno ≡ n → is_some o || ltb (length g.entries) 16 ≡ true → length (put entry_before e g.entries) ≤ 16
+put_fits n e g None rises few f s room = omega (arith, length_put entry_before e g.entries, ltb-true (length g.entries) 16 room)
+put_fits n e g (Some x) rises few f s room = omega (arith, put_same n e x g rises f s)
 
 pub group_change : (p : ShardIdent → Bool) (n : ℕ) (c : Option Entry) (g : GroupModel) → sound_group_model p g ≡ true → FitsAt p n c →
-    present (at_seqno n g.entries) || ltb (length g.entries) 16 ≡ true → sound_group_model p (with_entries (changed_entries c g.entries) g) ≡ true
-group_change p n none g h f room = h
-group_change p n (some e) g h f room =
+    is_some (at_seqno n g.entries) || ltb (length g.entries) 16 ≡ true → sound_group_model p (with_entries (changed_entries c g.entries) g) ≡ true
+group_change p n None g h f room = h
+group_change p n (Some e) g h f room =
     let a = group_parts p g h in
     group_put p e g h f.0 (put_fits n e g (at_seqno n g.entries) a.order (leb-true (length g.entries) 16 a.count) refl f.1 room)
 
 pub collated_fits : (p : ShardIdent → Bool) (c : BlockCandidate) (o : Option Entry) → p (id_shard c.block_id) ≡ true → entry_fits (fresh_collated c) ≡ true →
     FitsAt p c.block_id.seqno o → FitsAt p c.block_id.seqno (store_collated_at c o).change
-collated_fits p c none s ok h = (and_intro s ok, refl)
-collated_fits p c (some e) s ok h = on (same_id e.id c.block_id) (λ t. rw t h) (λ t. rw t tt)
+collated_fits p c None s ok h = (and_intro s ok, refl)
+collated_fits p c (Some e) s ok h = on (same_id e.id c.block_id) (λ t. rw t h) (λ t. rw t tt)
 
 pub received_fits : (p : ShardIdent → Bool) (z : ℕ) (r : ReceivedBlock) (o : Option Entry) → p (id_shard r.block_id) ≡ true → entry_fits (fresh_received z r) ≡ true →
     FitsAt p r.block_id.seqno o → FitsAt p r.block_id.seqno (store_received_at z r o).change
-received_fits p z r none s ok h = (and_intro s ok, refl)
-received_fits p z r (some e) s ok h = on (same_id e.id r.block_id) (λ t. rw t h) (λ t. rw t (and_intro s ok, refl))
+received_fits p z r None s ok h = (and_intro s ok, refl)
+received_fits p z r (Some e) s ok h = on (same_id e.id r.block_id) (λ t. rw t h) (λ t. rw t (and_intro s ok, refl))
 
 -- ===== what stands at a seqno =====
 
 -- in a rising group a member is what is found at its seqno
-pub found_itself : (es : List Entry) {e : Entry} → rising entry_before es ≡ true → Memᴰ e es → at_seqno e.id.seqno es ≡ some e
+pub found_itself : (es : List Entry) {e : Entry} → rising entry_before es ≡ true → Memᴰ e es → at_seqno e.id.seqno es ≡ Some e
 found_itself [] h u = absurd (Memᴰ.not-nil u)
-found_itself (x ∷ es) {e} h u = by (Memᴰ.cases_cons u) (λ (v : Memᴰ e es). found_itself es (and_right (every (entry_before x) es) (rising entry_before es) h) v)
+found_itself (x ∷ es) {e} h u = by (Memᴰ.cases_cons u) (λ (v : Memᴰ e es). found_itself es (and_right (list_all (entry_before x) es) (rising entry_before es) h) v)
   where
-    by : (e ≡ x) ⊎ Memᴰ e es → (Memᴰ e es → at_seqno e.id.seqno es ≡ some e) → at_seqno e.id.seqno (x ∷ es) ≡ some e
+    by : (e ≡ x) ⊎ Memᴰ e es → (Memᴰ e es → at_seqno e.id.seqno es ≡ Some e) → at_seqno e.id.seqno (x ∷ es) ≡ Some e
     by (inl s) ih = rw s (rw (eq-eqb x.id.seqno x.id.seqno refl))
     by (inr v) ih =
-        let l : x.id.seqno < e.id.seqno = ltb-true x.id.seqno e.id.seqno (every_member (entry_before x) es (and_left (every (entry_before x) es) (rising entry_before es) h) v) in
+        let l : x.id.seqno < e.id.seqno = ltb-true x.id.seqno e.id.seqno (every_member (entry_before x) es (and_left (list_all (entry_before x) es) (rising entry_before es) h) v) in
         rw (ne_eqb x.id.seqno e.id.seqno (λ q. omega arith)) (ih v)
 
-pub at_without_same : (n : ℕ) (es : List Entry) → at_seqno n (without n es) ≡ none
+pub at_without_same : (n : ℕ) (es : List Entry) → at_seqno n (without n es) ≡ None
 at_without_same n es = find_select_none (has_seqno n) (λ (e : Entry). not (has_seqno n e)) es (λ e h. rw h)
 
 pub at_without_other : (n k : ℕ) (es : List Entry) → k ≢ n → at_seqno k (without n es) ≡ at_seqno k es
@@ -156,16 +157,16 @@ NoTops [] = Unit {0}
 NoTops (e ∷ es) = (e.tops ≡ []) × NoTops es
 
 -- a shard entry that fits has no top item
-pub shard_no_tops : (s : ShardIdent) → is_masterchain s ≡ false → (es : List Entry) → every (fits_in (of_shard s)) es ≡ true → NoTops es
+pub shard_no_tops : (s : ShardIdent) → is_masterchain s ≡ false → (es : List Entry) → list_all (fits_in (of_shard s)) es ≡ true → NoTops es
 shard_no_tops s m [] h = tt
 shard_no_tops s m (e ∷ es) h =
-    let f : fits_in (of_shard s) e ≡ true = and_left (fits_in (of_shard s) e) (every (fits_in (of_shard s)) es) h in
+    let f : fits_in (of_shard s) e ≡ true = and_left (fits_in (of_shard s) e) (list_all (fits_in (of_shard s)) es) h in
     let t : same_shard (id_shard e.id) s ≡ true = and_left (same_shard (id_shard e.id) s) (entry_fits e) f in
     let g : entry_fits e ≡ true = and_right (same_shard (id_shard e.id) s) (entry_fits e) f in
     let c : is_masterchain (id_shard e.id) || eqb (length e.tops) 0 ≡ true = search (and_left, and_right) in
     let n : is_masterchain (id_shard e.id) ≡ false = rw (same_shard_true (id_shard e.id) s t) m in (
       no_tops e.tops (or_second (is_masterchain (id_shard e.id)) (eqb (length e.tops) 0) c n),
-      shard_no_tops s m es (and_right (fits_in (of_shard s) e) (every (fits_in (of_shard s)) es) h),
+      shard_no_tops s m es (and_right (fits_in (of_shard s) e) (list_all (fits_in (of_shard s)) es) h),
     )
 
 pub previous_two : (e : Entry) → entry_fits e ≡ true → length e.previous ≤ 2

@@ -1,15 +1,11 @@
 -- What the code does to a group's arrays, for every input, sound or not. It goes by what is listed; the result has zeros in the places that are left.
 -- On a packed group this is the rule of the model, packed (proofs/arrays/GroupLaws).
 -- Assumes nothing.
-use Rattle.std.specs.Prelude.{Bool, ◌||◌, not, List, [], ◌∷◌, ℕ, eqb, leb, ltb, get_or, length, take}
-use Rattle.std.proofs.Math.Option.{Option, none, some}
+use Rattle.std.specs.Prelude.{Bool, ◌||◌, not, List, [], ◌∷◌, ℕ, eqb, leb, ltb, get_or, length, take, Option, None, Some, map, cond, filter, Err, Ok, Result}
 use Rattle.block_records.specs.declared.block_id.BlockIdShort.{BlockIdShort}
 use Rattle.block_records.specs.declared.entry.BlockCacheEntry.{BlockCacheEntry}
 use Rattle.block_records.specs.declared.entry.MasterBlock.{MasterBlock}
-use Rattle.block_records.specs.declared.place.Place.{Place}
-use Rattle.block_records.specs.declared.place.Place.TheVariants.{At as place_at, Vacant as vacant_at}
-use Rattle.block_records.specs.declared.top_block.TopBlocks.{TopBlocks}
-use Rattle.blocks_group.specs.declared.group.Boundary.TheVariants.{At as boundary_at}
+use Rattle.block_records.specs.layout.Listed.{TopBlocks}
 use Rattle.blocks_group.specs.declared.group.EntryAt.{EntryAt}
 use Rattle.blocks_group.specs.declared.group.Group.{Group}
 use Rattle.blocks_group.specs.declared.group.MasterAt.{MasterAt}
@@ -19,7 +15,7 @@ use Rattle.blocks_group.specs.declared.group.Retained.TheVariants.{AllBut as ret
 use Rattle.block_records.specs.layout.Zeros.{zero_entry, zero_master, zero_tops}
 use Rattle.block_records.specs.rules.Entry.{kind_received}
 use Rattle.block_records.specs.rules.Limits.{entries_limit}
-use Rattle.block_records.specs.rules.Lists.{each, padded, pick, put, select}
+use Rattle.block_records.specs.rules.Lists.{padded, put}
 use Rattle.blocks_group.specs.arrays.Search.{seqno_place}
 
 -- ===== what is listed =====
@@ -38,7 +34,7 @@ listed_entries g = take g.count g.entries
 
 -- their seqnos
 abbrev pub listed_seqnos : Group → List ℕ
-listed_seqnos g = each held_seqno (listed_entries g)
+listed_seqnos g = map held_seqno (listed_entries g)
 
 -- the same of a master block
 abbrev pub master_seqno : MasterBlock → ℕ
@@ -68,19 +64,19 @@ with_records bs g = record { entries = padded entries_limit zero_entry bs; count
 abbrev pub with_master_blocks : List MasterBlock → MasterGroup → MasterGroup
 with_master_blocks bs g =
     record {
-      group = with_records (each (λ (b : MasterBlock). b.entry) bs) g.group;
-      tops = padded entries_limit zero_tops (each (λ (b : MasterBlock). b.tops) bs);
+      group = with_records (map (λ (b : MasterBlock). b.entry) bs) g.group;
+      tops = padded entries_limit zero_tops (map (λ (b : MasterBlock). b.tops) bs);
     }
 
 -- ===== the entry at a seqno, zeros where there is none =====
 
 -- what stands at the place that a search found
-abbrev pub at_place : {A : Type 0} → A → List A → Place → A
-at_place z xs (place_at k) = get_or xs k z
-at_place z xs (vacant_at k) = z
+abbrev pub at_place : {A : Type 0} → A → List A → Result ℕ ℕ → A
+at_place z xs (Ok k) = get_or xs k z
+at_place z xs (Err k) = z
 
 -- where an entry of the seqno stands or would go in
-abbrev pub entry_place : ℕ → Group → Place
+abbrev pub entry_place : ℕ → Group → Result ℕ ℕ
 entry_place n g = seqno_place n (listed_seqnos g)
 
 -- that place, and the entry there
@@ -100,9 +96,9 @@ master_at n g =
     }
 
 -- what an answer says: that which stands at the seqno, or nothing
-abbrev pub when_found : {A : Type 0} → Place → A → Option A
-when_found (place_at k) a = some a
-when_found (vacant_at k) a = none
+abbrev pub when_found : {A : Type 0} → Result ℕ ℕ → A → Option A
+when_found (Ok k) a = Some a
+when_found (Err k) a = None
 
 -- an answer, as an option
 abbrev pub answered_entry : EntryAt → Option BlockCacheEntry
@@ -116,11 +112,11 @@ answered_master a = when_found a.found a.block
 
 -- by rising seqno; where they would be more than 16, nothing changes
 abbrev pub put_entry : BlockCacheEntry → Group → Group
-put_entry b g = pick (leb (length (put held_before b (listed_entries g))) entries_limit) (with_records (put held_before b (listed_entries g)) g) g
+put_entry b g = cond (leb (length (put held_before b (listed_entries g))) entries_limit) (with_records (put held_before b (listed_entries g)) g) g
 
 -- the same of a master block, with its top items
 abbrev pub put_master : MasterBlock → MasterGroup → MasterGroup
-put_master b g = pick (leb (length (put master_before b (listed_masters g))) entries_limit) (with_master_blocks (put master_before b (listed_masters g)) g) g
+put_master b g = cond (leb (length (put master_before b (listed_masters g))) entries_limit) (with_master_blocks (put master_before b (listed_masters g)) g) g
 
 -- ===== entries retained by a rule =====
 
@@ -132,11 +128,11 @@ retains (retain_but n) b = not (eqb (held_seqno b) n)
 
 -- the listed entries that stay
 abbrev pub retain_entries : Retained → Group → Group
-retain_entries r g = with_records (select (retains r) (listed_entries g)) g
+retain_entries r g = with_records (filter (retains r) (listed_entries g)) g
 
 -- the master blocks that stay, with their top items
 abbrev pub retain_masters : Retained → MasterGroup → MasterGroup
-retain_masters r g = with_master_blocks (select (λ (b : MasterBlock). retains r b.entry) (listed_masters g)) g
+retain_masters r g = with_master_blocks (filter (λ (b : MasterBlock). retains r b.entry) (listed_masters g)) g
 
 -- all master blocks but that of the seqno
 abbrev pub remove_master : ℕ → MasterGroup → MasterGroup
@@ -146,7 +142,7 @@ remove_master n g = retain_masters (retain_but n) g
 
 -- the boundary becomes the key, and nothing else changes
 abbrev pub set_group_boundary : BlockIdShort → Group → Group
-set_group_boundary k g = record { entries = g.entries; count = g.count; mark = g.mark; boundary = boundary_at k }
+set_group_boundary k g = record { entries = g.entries; count = g.count; mark = g.mark; boundary = Some k }
 
 -- the same of the master group
 abbrev pub set_master_boundary : BlockIdShort → MasterGroup → MasterGroup

@@ -1,51 +1,28 @@
 -- RULES.md, How it is held: a group in 16 places and a count, zeros after the count; the master group's top items beside it, in the same places.
 -- Assumes nothing.
-use Rattle.std.specs.Prelude.{Bool, ◌&&◌, false, true, List, [], ◌∷◌, ℕ, eqb, length, replicate, take}
-use Rattle.std.proofs.Math.Option.{Option, none, some}
+use lib.Pointwise.{pointwise}
+use Rattle.std.specs.Option.{option_eq}
+use Rattle.std.specs.Prelude.{Bool, ◌&&◌, List, [], ◌∷◌, ℕ, eqb, length, replicate, take, Option, None, map}
 use Rattle.block_records.specs.declared.block_id.BlockIdShort.{BlockIdShort}
 use Rattle.block_records.specs.declared.block_id.ShardIdent.{ShardIdent}
 use Rattle.block_records.specs.declared.entry.BlockCacheEntry.{BlockCacheEntry}
-use Rattle.block_records.specs.declared.top_block.TopBlocks.{TopBlocks}
-use Rattle.blocks_group.specs.declared.group.Boundary.{Boundary}
-use Rattle.blocks_group.specs.declared.group.Boundary.TheVariants.{Absent as no_boundary, At as boundary_at}
+use Rattle.block_records.specs.layout.Listed.{TopBlocks}
 use Rattle.blocks_group.specs.declared.group.Group.{Group}
 use Rattle.blocks_group.specs.declared.group.MasterGroup.{MasterGroup}
 use Rattle.blocks_group.specs.declared.mark.CheckedMark.{CheckedMark}
-use Rattle.blocks_group.specs.declared.mark.Mark.{Mark}
-use Rattle.blocks_group.specs.declared.mark.Mark.TheVariants.{Absent as no_mark, At as mark_at}
 use Rattle.block_records.specs.layout.Entry.{entry_tops, pack_entry, view_entry, view_shard_entry}
 use Rattle.block_records.specs.layout.Equality.{same_entry, same_tops}
 use Rattle.block_records.specs.layout.Zeros.{zero_entry, zero_tops}
 use Rattle.block_records.specs.rules.BlockId.{is_masterchain, listed_tops, same_key}
 use Rattle.block_records.specs.rules.Entry.{Entry}
 use Rattle.block_records.specs.rules.Limits.{entries_limit}
-use Rattle.block_records.specs.rules.Lists.{each, padded, same_list}
+use Rattle.block_records.specs.rules.Lists.{padded}
 use Rattle.blocks_group.specs.rules.Group.{GroupModel, given_mark, refreshed_mark}
 use Rattle.blocks_group.specs.rules.Soundness.{sound_group_model}
 
--- a mark or none, as it is held
-abbrev pub pack_mark : Option ℕ → Mark
-pack_mark none = no_mark
-pack_mark (some n) = mark_at n
-
--- the same as an option
-abbrev pub view_mark : Mark → Option ℕ
-view_mark no_mark = none
-view_mark (mark_at n) = some n
-
 -- the mark's rule of a mark as it is held: what `given_mark` gives, and the mark that is left
-abbrev pub check_mark : ℕ → Mark → CheckedMark
-check_mark n m = record { given = pack_mark (given_mark n (view_mark m)); mark = pack_mark (refreshed_mark n (view_mark m)) }
-
--- a boundary or none, as it is held
-abbrev pub pack_boundary : Option BlockIdShort → Boundary
-pack_boundary none = no_boundary
-pack_boundary (some k) = boundary_at k
-
--- the same as an option
-abbrev pub view_boundary : Boundary → Option BlockIdShort
-view_boundary no_boundary = none
-view_boundary (boundary_at k) = some k
+abbrev pub check_mark : ℕ → Option ℕ → CheckedMark
+check_mark n m = record { given = given_mark n m; mark = refreshed_mark n m }
 
 -- ===== a shard's group =====
 
@@ -53,30 +30,30 @@ view_boundary (boundary_at k) = some k
 abbrev pub pack_group : GroupModel → Group
 pack_group g =
     record {
-      entries = padded entries_limit zero_entry (each pack_entry g.entries);
+      entries = padded entries_limit zero_entry (map pack_entry g.entries);
       count = length g.entries;
-      mark = pack_mark g.mark;
-      boundary = pack_boundary g.boundary;
+      mark = g.mark;
+      boundary = g.boundary;
     }
 
 -- what a shard's group stands for: its listed entries, without top items
 abbrev pub view_group : Group → GroupModel
 view_group g =
     record {
-      entries = each view_shard_entry (take g.count g.entries);
-      mark = view_mark g.mark;
-      boundary = view_boundary g.boundary;
+      entries = map view_shard_entry (take g.count g.entries);
+      mark = g.mark;
+      boundary = g.boundary;
     }
 
 -- a group with no entry, mark or boundary
 unfoldable pub zero_group : Group
-zero_group = record { entries = replicate entries_limit zero_entry; count = 0; mark = no_mark; boundary = no_boundary }
+zero_group = record { entries = replicate entries_limit zero_entry; count = 0; mark = None; boundary = None }
 
 -- ===== the master group =====
 
 -- the entries as in `pack_group`, and their top items in the same places
 abbrev pub pack_master_group : GroupModel → MasterGroup
-pack_master_group g = record { group = pack_group g; tops = padded entries_limit zero_tops (each entry_tops g.entries) }
+pack_master_group g = record { group = pack_group g; tops = padded entries_limit zero_tops (map entry_tops g.entries) }
 
 -- a master group with no entry, mark or boundary
 unfoldable pub zero_master_group : MasterGroup
@@ -93,43 +70,37 @@ abbrev pub view_master_group : MasterGroup → GroupModel
 view_master_group g =
     record {
       entries = view_masters (take g.group.count g.group.entries) g.tops;
-      mark = view_mark g.group.mark;
-      boundary = view_boundary g.group.boundary;
+      mark = g.group.mark;
+      boundary = g.group.boundary;
     }
 
 -- ===== equality, as tests =====
 
 -- both absent, or one number
-abbrev pub same_mark : Mark → Mark → Bool
-same_mark no_mark no_mark = true
-same_mark no_mark (mark_at y) = false
-same_mark (mark_at x) no_mark = false
-same_mark (mark_at x) (mark_at y) = eqb x y
+abbrev pub same_mark : Option ℕ → Option ℕ → Bool
+same_mark a b = option_eq eqb a b
 
 -- both absent, or one key
-abbrev pub same_boundary : Boundary → Boundary → Bool
-same_boundary no_boundary no_boundary = true
-same_boundary no_boundary (boundary_at y) = false
-same_boundary (boundary_at x) no_boundary = false
-same_boundary (boundary_at x) (boundary_at y) = same_key x y
+abbrev pub same_boundary : Option BlockIdShort → Option BlockIdShort → Bool
+same_boundary a b = option_eq same_key a b
 
 -- the same count, mark and boundary, and the same entry in every place
 unfoldable pub same_group : Group → Group → Bool
 same_group a b =
     eqb a.count b.count && (same_mark a.mark b.mark && (same_boundary a.boundary b.boundary
-    && same_list same_entry a.entries b.entries))
+    && pointwise same_entry a.entries b.entries))
 
 -- the same group, and the same top items in every place
 unfoldable pub same_master_group : MasterGroup → MasterGroup → Bool
-same_master_group a b = same_group a.group b.group && same_list same_tops a.tops b.tops
+same_master_group a b = same_group a.group b.group && pointwise same_tops a.tops b.tops
 
 -- no mark
-abbrev pub is_zero_mark : Mark → Bool
-is_zero_mark m = same_mark m no_mark
+abbrev pub is_zero_mark : Option ℕ → Bool
+is_zero_mark m = same_mark m None
 
 -- no boundary
-abbrev pub is_zero_boundary : Boundary → Bool
-is_zero_boundary b = same_boundary b no_boundary
+abbrev pub is_zero_boundary : Option BlockIdShort → Bool
+is_zero_boundary b = same_boundary b None
 
 -- zeros in every place, no mark and no boundary
 abbrev pub is_zero_group : Group → Bool

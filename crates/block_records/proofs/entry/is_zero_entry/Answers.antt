@@ -4,4 +4,5 @@ use Rattle.block_records.proofs.entry.is_zero_entry.Goals as goal
 
 pub returns : goal.returns
 unfolding same_entry zero_entry
-returns c = rw (c.is_zero_kind-k.ensures, c.is_zero_anchor-t.ensures, c.is_zero_prev_ids-p.ensures, c.is_zero_id-i.ensures)
+returns c =
+    rw (c.eq-id.ensures, c.zero_id.ensures, c.eq-previous.ensures, c.zero_prev_ids.ensures, c.eq-anchor.ensures, c.is_zero_kind.ensures)

@@ -1,6 +1,7 @@
-use Rattle.block_records.specs.layout.Questions.{held_entry_fits}
+use mathlib.Core.Path.{ap, ◌∙◌}
+use Rattle.std.specs.Prelude.{is_ok}
+use Rattle.block_records.proofs.layout.QuestionLaws.{checked_fits}
 use Rattle.block_records.proofs.questions.held_entry_fits.Goals as goal
 
 pub returns : goal.returns
-unfolding held_entry_fits
-returns c = rw (c.links_fit-l.ensures, c.counts_fit-c.ensures, c.seqnos_fit-s.ensures)
+returns c = c.is_ok.ensures.value ∙ ap is_ok c.check_record.ensures ∙ checked_fits c.args.entry c.args.tops

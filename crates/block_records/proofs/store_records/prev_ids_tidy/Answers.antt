@@ -1,13 +1,11 @@
 -- The count and the zeros are what `prev_ids_tidy` asks, by the array's length.
-use mathlib.Core.Path.{◌≡◌, sym, ap, ◌∙◌}
-use mathlib.Core.Bool.{Bool, ◌&&◌}
 use borrow.Author.Rules.{rules}
-use lib.Dec.{leb}
-use lib.ListN.{length}
-use Rattle.block_records.proofs.arrays.LoopLaws.{length_mapped}
+use borrow.Author.Tests.{le-leb, lt-leb}
 use Rattle.block_records.proofs.layout.TidyLaws.{prev_ids_tidy_is}
 use Rattle.block_records.proofs.store_records.prev_ids_tidy.Goals as goal
 
-pub returns : goal.returns
-returns c =
-    ap (λ (t : Bool). leb c.args.prev.count 2 && t) c.ids_zero_from-zeros.ensures ∙ sym (prev_ids_tidy_is c.args.prev (let long : length c.args.prev.ids ≡ 2 = search (rules, length_mapped) in long))
+pub returns-then-prev-le-PREV_IDS_LIMIT : goal.returns-then-prev-le-PREV_IDS_LIMIT
+returns-then-prev-le-PREV_IDS_LIMIT c = rw (prev_ids_tidy_is c.args.prev (search rules), le-leb _ _ c.if-prev-le-PREV_IDS_LIMIT.true, ← c.unlisted.ensures) c.zero_ids.ensures
+
+pub returns-else-prev-le-PREV_IDS_LIMIT : goal.returns-else-prev-le-PREV_IDS_LIMIT
+returns-else-prev-le-PREV_IDS_LIMIT c = rw (prev_ids_tidy_is c.args.prev (search rules), lt-leb _ _ c.if-prev-le-PREV_IDS_LIMIT.false)

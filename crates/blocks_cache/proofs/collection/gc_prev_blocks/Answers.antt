@@ -3,7 +3,7 @@ use Rattle.std.proofs.Common.{[], sym, refl, ◌∙◌}
 use Rattle.blocks_cache.proofs.layout.CallLaws.{unsound_answers_1}
 use Rattle.cache_rules.specs.Effects.{do_collect}
 use Rattle.blocks_cache.specs.arrays.Collection.{held_collect}
-use Rattle.blocks_cache.specs.declared.collection.ChangeAnswer.TheVariants.{Done as change_done}
+use Rattle.std.specs.Prelude.{Ok}
 use Rattle.blocks_cache.proofs.arrays.CollectionLaws.{asks_nothing, change_is, collect_packed, collects}
 use Rattle.blocks_cache.proofs.collection.gc_prev_blocks.Goals as goal
 
@@ -12,5 +12,5 @@ returns-then-not-sound_cache c = sym (unsound_answers_1 _ _ (sym c.sound_cache.e
 
 pub returns : goal.returns
 returns c =
-    change_is _ [] asks_nothing held_collect do_collect collects (λ m ok. collect_packed m) c.args.cache change_done
+    change_is _ [] asks_nothing held_collect do_collect collects (λ m ok. collect_packed m) c.args.cache (Ok tt)
     (rw (sym c.sound_cache.ensures ∙ c.if-not-sound_cache.false)) refl _ c.held_collect-collected.ensures

@@ -6,10 +6,5 @@ use Rattle.blocks_cache.proofs.collection.keys_answer.Goals as goal
 pub returns-then-not-sound_cache : goal.returns-then-not-sound_cache
 returns-then-not-sound_cache c = keys_unsound c.args.given c.args.cache (sym c.sound_cache.ensures ∙ c.if-not-sound_cache.true)
 
-pub returns-in-Absent : goal.returns-in-Absent
-returns-in-Absent c =
-    keys_answered c.args.given c.args.cache (sym c.sound_cache.ensures ∙ c.if-not-sound_cache.false) _ c.keys_refusal-refusal.ensures _ c.in-Absent.is
-
-pub returns-in-Number : goal.returns-in-Number
-returns-in-Number c =
-    keys_answered c.args.given c.args.cache (sym c.sound_cache.ensures ∙ c.if-not-sound_cache.false) _ c.keys_refusal-refusal.ensures _ c.in-Number.is
+pub returns : goal.returns
+returns c = keys_answered c.args.given c.args.cache (sym c.sound_cache.ensures ∙ c.if-not-sound_cache.false) _ c.check_keys.ensures

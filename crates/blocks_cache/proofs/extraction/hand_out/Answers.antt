@@ -17,7 +17,7 @@ returns c =
                 record {
                   zerostate_mc_seqno = a.cache.zerostate_mc_seqno;
                   masters = a.masters;
-                  «data» = record { ids = (d i).ids; count = (d i).count; range = a.range };
+                  «data» = record { ids = (d i).ids; range = a.range };
                   shards = a.extraction.shards;
                   shard_count = a.cache.shard_count;
                 };

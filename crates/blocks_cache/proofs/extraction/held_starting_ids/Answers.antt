@@ -1,10 +1,11 @@
+use Rattle.std.specs.Prelude.{map, filter}
 use Rattle.std.proofs.Common.{◌≡◌, length, sym, refl, ap, ◌∙◌, arith, rules}
 use Rattle.block_records.proofs.arrays.ArrayLaws.{each_end, each_next, length_take_few}
 use Rattle.block_records.proofs.layout.EntryLaws.{view_pack_tops}
 use Rattle.block_records.proofs.rules.ListLaws.{length_each, length_select}
 use Rattle.block_records.proofs.arrays.LoopLaws.{length_mapped, padded_nil}
 use Rattle.block_records.specs.rules.BlockId.{listed_tops}
-use Rattle.block_records.specs.rules.Lists.{each, select, padded}
+use Rattle.block_records.specs.rules.Lists.{padded}
 use Rattle.block_records.specs.layout.Zeros.{zero_id}
 use Rattle.cache_rules.specs.Extraction.{starts, top_id}
 use Rattle.blocks_cache.proofs.extraction.held_starting_ids.Goals as goal
@@ -24,11 +25,11 @@ loop-i-preserved c =
 
 pub returns : goal.returns
 returns c =
-    let xs = select (starts c.args.zerostate) (listed_tops c.args.tops) in
+    let xs = filter (starts c.args.zerostate) (listed_tops c.args.tops) in
     let e = c.held_starting_items-starting.ensures in
     let l = c.loop-i.invariant.2 in
     let a =
     each_end top_id 264 zero_id c.held_starting_items-starting.result.count c.held_starting_items-starting.result.items c.loop-i.ids c.loop-i.i (omega arith) (omega arith) c.loop-i.invariant.3 c.loop-i-test.false
-    ∙ ap (λ t. padded 264 zero_id (each top_id (listed_tops t))) e ∙ ap (λ x. padded 264 zero_id (each top_id x)) (view_pack_tops xs) in
+    ∙ ap (λ t. padded 264 zero_id (map top_id (listed_tops t))) e ∙ ap (λ x. padded 264 zero_id (map top_id x)) (view_pack_tops xs) in
     let b = ap (λ t. t.count) e ∙ sym (length_each top_id xs) in
     λ i. record { ids = a i; count = b i }

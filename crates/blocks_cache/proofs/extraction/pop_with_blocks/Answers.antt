@@ -8,4 +8,4 @@ returns-in_default c =
 
 pub returns : goal.returns
 returns c =
-    pop_some c.args.cache c.requires c.args.from c.first_applied_master-first.result c.first_applied_master-first.ensures _ _ _ _ _ c.hand_out.result c.in-At.is c.any_applied_above-above.ensures c.extraction_of-extraction.ensures c.remove_master-left.ensures c.moved_start-range.ensures c.hand_out.ensures
+    pop_some c.args.cache c.requires c.args.from c.first_applied_master-first.result c.first_applied_master-first.ensures _ _ _ _ _ c.hand_out.result c.in-Ok.is c.any_applied_above-above.ensures c.extraction_of-extraction.ensures c.remove_master-left.ensures c.moved_start-range.ensures c.hand_out.ensures

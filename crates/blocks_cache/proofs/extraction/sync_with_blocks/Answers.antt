@@ -8,4 +8,4 @@ returns-in_default c =
 
 pub returns : goal.returns
 returns c =
-    sync_some c.args.cache c.requires c.args.seqno c.master_at-there.result c.master_at-there.ensures _ _ _ _ _ c.hand_out.result c.in-At.is c.extraction_of-extraction.ensures c.remove_master-removed.ensures c.refresh_masters-left.ensures c.move_applied_start-range.ensures c.hand_out.ensures
+    sync_some c.args.cache c.requires c.args.seqno c.master_at-there.result c.master_at-there.ensures _ _ _ _ _ c.hand_out.result c.in-Ok.is c.extraction_of-extraction.ensures c.remove_master-removed.ensures c.refresh_masters-left.ensures c.move_applied_start-range.ensures c.hand_out.ensures

@@ -1,7 +1,8 @@
+use Rattle.std.specs.Prelude.{map}
 use Rattle.std.proofs.Common.{◌≡◌, length, take, sym, refl, ap, ◌∙◌, arith, rules}
 use Rattle.block_records.proofs.arrays.ArrayLaws.{each_end, each_next, take_within, within_few}
 use Rattle.block_records.proofs.arrays.LoopLaws.{length_mapped, padded_nil}
-use Rattle.block_records.specs.rules.Lists.{each, padded}
+use Rattle.block_records.specs.rules.Lists.{padded}
 use Rattle.blocks_cache.specs.arrays.Lookup.{no_seqno_here, seqno_here}
 use Rattle.blocks_cache.proofs.lookup.group_seqnos.Goals as goal
 
@@ -24,6 +25,6 @@ returns c =
     let k = c.listed_count-count.ensures in
     let e =
     each_end seqno_here 16 no_seqno_here n c.args.group.entries c.loop-i.entries c.loop-i.i (omega arith) c.loop-i.invariant.1 c.loop-i.invariant.2 c.loop-i-test.false
-    ∙ ap (λ j. padded 16 no_seqno_here (each seqno_here (take j c.args.group.entries))) k
-    ∙ ap (λ xs. padded 16 no_seqno_here (each seqno_here xs)) (take_within 16 c.args.group.count c.args.group.entries l) in
+    ∙ ap (λ j. padded 16 no_seqno_here (map seqno_here (take j c.args.group.entries))) k
+    ∙ ap (λ xs. padded 16 no_seqno_here (map seqno_here xs)) (take_within 16 c.args.group.count c.args.group.entries l) in
     λ i. record { entries = e i; mark = c.args.group.mark }

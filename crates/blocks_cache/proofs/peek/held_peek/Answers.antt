@@ -6,4 +6,4 @@ pub returns-in_default : goal.returns-in_default
 returns-in_default c = peek_vacant c.args.from c.args.cache _ c.first_applied_master-at.ensures _ c.in_default.is _ c.zero_peek.ensures
 
 pub returns : goal.returns
-returns c = peek_at c.args.from c.args.cache _ c.first_applied_master-at.ensures _ c.in-At.is _ c.held_view_tops-view.ensures
+returns c = peek_at c.args.from c.args.cache _ c.first_applied_master-at.ensures _ c.in-Ok.is _ c.held_view_tops-view.ensures

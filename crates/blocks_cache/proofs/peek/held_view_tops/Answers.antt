@@ -13,24 +13,24 @@ returns-in_default c =
     view_stop c.args.seqno c.args.cache c.held_starting_items-starting.result c.args.tops c.held_starting_items-starting.ensures c.loop-count.count c.loop-count.rows c.loop-count.invariant _ c.loop-count-test.true (row_absent c.args.cache c.requires c.args.seqno _ c.shard_idents-idents.result c.shard_seqnos-seqnos.result c.shard_idents-idents.ensures c.shard_seqnos-seqnos.ensures (sym c.block_place.ensures ∙ c.in_default.is)) _ c.ended_at.ensures
 
 pub offset_bounds-cache-at : goal.offset_bounds-cache-at
-offset_bounds-cache-at c = omega (arith, (let group_place : c.in-At.at < 8 = cached_group_within c.args.cache c.requires _ c.shard_idents-idents.result c.shard_seqnos-seqnos.result c.shard_idents-idents.ensures c.shard_seqnos-seqnos.ensures _ _ (sym c.block_place.ensures ∙ c.in-At.is) in group_place))
+offset_bounds-cache-at c = omega (arith, (let group_place : c.in-Some.at < 8 = cached_group_within c.args.cache c.requires _ c.shard_idents-idents.result c.shard_seqnos-seqnos.result c.shard_idents-idents.ensures c.shard_seqnos-seqnos.ensures _ _ (sym c.block_place.ensures ∙ c.in-Some.is) in group_place))
 
 pub bounds-cache-at : goal.bounds-cache-at
-bounds-cache-at c = omega (arith, (let group_place : c.in-At.at < 8 = cached_group_within c.args.cache c.requires _ c.shard_idents-idents.result c.shard_seqnos-seqnos.result c.shard_idents-idents.ensures c.shard_seqnos-seqnos.ensures _ _ (sym c.block_place.ensures ∙ c.in-At.is) in group_place))
+bounds-cache-at c = omega (arith, (let group_place : c.in-Some.at < 8 = cached_group_within c.args.cache c.requires _ c.shard_idents-idents.result c.shard_seqnos-seqnos.result c.shard_idents-idents.ensures c.shard_seqnos-seqnos.ensures _ _ (sym c.block_place.ensures ∙ c.in-Some.is) in group_place))
 
 pub offset_bounds-group-place : goal.offset_bounds-group-place
-offset_bounds-group-place c = omega (arith, (let entry_place : c.in-At.place < 16 = cached_entry_within c.args.cache c.requires _ c.shard_idents-idents.result c.shard_seqnos-seqnos.result c.shard_idents-idents.ensures c.shard_seqnos-seqnos.ensures _ _ (sym c.block_place.ensures ∙ c.in-At.is) in entry_place))
+offset_bounds-group-place c = omega (arith, (let entry_place : c.in-Some.place < 16 = cached_entry_within c.args.cache c.requires _ c.shard_idents-idents.result c.shard_seqnos-seqnos.result c.shard_idents-idents.ensures c.shard_seqnos-seqnos.ensures _ _ (sym c.block_place.ensures ∙ c.in-Some.is) in entry_place))
 
 pub bounds-group-place : goal.bounds-group-place
-bounds-group-place c = omega (arith, (let entry_place : c.in-At.place < 16 = cached_entry_within c.args.cache c.requires _ c.shard_idents-idents.result c.shard_seqnos-seqnos.result c.shard_idents-idents.ensures c.shard_seqnos-seqnos.ensures _ _ (sym c.block_place.ensures ∙ c.in-At.is) in entry_place))
+bounds-group-place c = omega (arith, (let entry_place : c.in-Some.place < 16 = cached_entry_within c.args.cache c.requires _ c.shard_idents-idents.result c.shard_seqnos-seqnos.result c.shard_idents-idents.ensures c.shard_seqnos-seqnos.ensures _ _ (sym c.block_place.ensures ∙ c.in-Some.is) in entry_place))
 
 pub returns-then-block-seqno : goal.returns-then-block-seqno
 returns-then-block-seqno c =
-    view_stop c.args.seqno c.args.cache c.held_starting_items-starting.result c.args.tops c.held_starting_items-starting.ensures c.loop-count.count c.loop-count.rows c.loop-count.invariant _ c.loop-count-test.true (row_foreign c.args.cache c.requires c.args.seqno _ c.shard_idents-idents.result c.shard_seqnos-seqnos.result c.shard_idents-idents.ensures c.shard_seqnos-seqnos.ensures _ _ (sym c.block_place.ensures ∙ c.in-At.is) _ _ c.if-block-seqno.true) _ c.ended_at-then-block-seqno.ensures
+    view_stop c.args.seqno c.args.cache c.held_starting_items-starting.result c.args.tops c.held_starting_items-starting.ensures c.loop-count.count c.loop-count.rows c.loop-count.invariant _ c.loop-count-test.true (row_foreign c.args.cache c.requires c.args.seqno _ c.shard_idents-idents.result c.shard_seqnos-seqnos.result c.shard_idents-idents.ensures c.shard_seqnos-seqnos.ensures _ _ (sym c.block_place.ensures ∙ c.in-Some.is) _ _ c.if-block-seqno.true) _ c.ended_at-then-block-seqno.ensures
 
 pub loop-count-preserved : goal.loop-count-preserved
 loop-count-preserved c =
-    view_more c.args.seqno c.args.cache c.held_starting_items-starting.result c.args.tops c.held_starting_items-starting.ensures c.loop-count.count c.loop-count.rows c.loop-count.invariant _ c.loop-count-test.true _ (row_naming c.args.cache c.requires c.args.seqno _ c.shard_idents-idents.result c.shard_seqnos-seqnos.result c.shard_idents-idents.ensures c.shard_seqnos-seqnos.ensures _ _ (sym c.block_place.ensures ∙ c.in-At.is) _ _ c.if-block-seqno.false)
+    view_more c.args.seqno c.args.cache c.held_starting_items-starting.result c.args.tops c.held_starting_items-starting.ensures c.loop-count.count c.loop-count.rows c.loop-count.invariant _ c.loop-count-test.true _ (row_naming c.args.cache c.requires c.args.seqno _ c.shard_idents-idents.result c.shard_seqnos-seqnos.result c.shard_idents-idents.ensures c.shard_seqnos-seqnos.ensures _ _ (sym c.block_place.ensures ∙ c.in-Some.is) _ _ c.if-block-seqno.false)
 
 pub returns : goal.returns
 returns c =

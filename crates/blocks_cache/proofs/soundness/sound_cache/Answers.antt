@@ -7,4 +7,4 @@ use Rattle.blocks_cache.proofs.soundness.sound_cache.Goals as goal
 pub returns : goal.returns
 returns c =
     rw (c.sound_shards-s.ensures, c.sound_ids-i.ensures, c.sound_range-r.ensures, c.sound_master_group-m.ensures)
-    (sym (sound_cache_parts c.args.cache (let long_ids : length c.args.cache.«data».ids ≡ 32 = search (rules, length_mapped) in long_ids) (let long_shards : length c.args.cache.shards ≡ 8 = search (rules, length_mapped) in long_shards)))
+    (sym (sound_cache_parts c.args.cache (let long_ids : length c.args.cache.«data».ids.items ≡ 32 = search (rules, length_mapped) in long_ids) (let long_shards : length c.args.cache.shards ≡ 8 = search (rules, length_mapped) in long_shards)))

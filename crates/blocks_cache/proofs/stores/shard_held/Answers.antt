@@ -9,17 +9,17 @@ use Rattle.blocks_cache.proofs.stores.shard_held.Goals as goal
 pub offset_bounds-groups-at : goal.offset_bounds-groups-at
 offset_bounds-groups-at c = omega (
   arith,
-  (let small : c.in-At.at < 8 = shard_listed c.args.groups (let long : length c.args.groups ≡ 8 = search (rules, length_mapped) in long) c.args.count (record { shard = c.args.shard; group = zero_group }) _
-      (sym c.shard_place-place.ensures ∙ c.in-At.is) in small),
+  (let small : c.in-Ok.at < 8 = shard_listed c.args.groups (let long : length c.args.groups ≡ 8 = search (rules, length_mapped) in long) c.args.count (record { shard = c.args.shard; group = zero_group }) _
+      (sym c.shard_place-place.ensures ∙ c.in-Ok.is) in small),
 )
 
 pub bounds-groups-at : goal.bounds-groups-at
-bounds-groups-at c = (let small : c.in-At.at < 8 = shard_listed c.args.groups (let long : length c.args.groups ≡ 8 = search (rules, length_mapped) in long) c.args.count (record { shard = c.args.shard; group = zero_group }) _
-    (sym c.shard_place-place.ensures ∙ c.in-At.is) in small)
+bounds-groups-at c = (let small : c.in-Ok.at < 8 = shard_listed c.args.groups (let long : length c.args.groups ≡ 8 = search (rules, length_mapped) in long) c.args.count (record { shard = c.args.shard; group = zero_group }) _
+    (sym c.shard_place-place.ensures ∙ c.in-Ok.is) in small)
 
-pub returns-in-At : goal.returns-in-At
-returns-in-At c = held_there c.args.groups (let long : length c.args.groups ≡ 8 = search (rules, length_mapped) in long) c.args.count c.args.shard _ _ (sym c.shard_place-place.ensures ∙ c.in-At.is)
+pub returns-in-Ok : goal.returns-in-Ok
+returns-in-Ok c = held_there c.args.groups (let long : length c.args.groups ≡ 8 = search (rules, length_mapped) in long) c.args.count c.args.shard _ _ (sym c.shard_place-place.ensures ∙ c.in-Ok.is)
 
-pub returns-in-Vacant : goal.returns-in-Vacant
-returns-in-Vacant c =
-    held_nowhere c.args.groups (let long : length c.args.groups ≡ 8 = search (rules, length_mapped) in long) c.args.count c.args.shard _ _ c.zero_group-group.ensures (sym c.shard_place-place.ensures ∙ c.in-Vacant.is)
+pub returns-in-Err : goal.returns-in-Err
+returns-in-Err c =
+    held_nowhere c.args.groups (let long : length c.args.groups ≡ 8 = search (rules, length_mapped) in long) c.args.count c.args.shard _ _ c.zero_group-group.ensures (sym c.shard_place-place.ensures ∙ c.in-Err.is)

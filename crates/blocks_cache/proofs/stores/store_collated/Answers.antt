@@ -14,17 +14,17 @@ returns-then-not-sound_cache c =
     promised_unsound c.args.cache (store_collated c.args.candidate) _ c.nothing_stored.ensures
     (sym c.sound_cache.ensures ∙ c.if-not-sound_cache.true)
 
-pub returns-in-Number : goal.returns-in-Number
-returns-in-Number c =
+pub returns-in-Err : goal.returns-in-Err
+returns-in-Err c =
     let ok = sym c.sound_cache.ensures ∙ c.if-not-sound_cache.false in
     promised_refused c.args.cache (store_collated c.args.candidate) ok (candidate_questions c.args.candidate) (candidate_rest c.args.candidate (view c.args.cache))
-    (candidate_split c.args.candidate c.args.cache) _ c.candidate_refusal-refusal.ensures _ _ c.nothing_stored-in-Number.ensures c.in-Number.is
+    (candidate_split c.args.candidate c.args.cache) _ c.check_candidate.ensures _ _ c.nothing_stored-in-Err.ensures c.in-Err.is
 
 pub returns : goal.returns
 returns c =
     let ok = sym c.sound_cache.ensures ∙ c.if-not-sound_cache.false in
     let e = c.store_candidate.ensures in
     promised_rest c.args.cache (store_collated c.args.candidate) ok (candidate_questions c.args.candidate) (candidate_rest c.args.candidate (view c.args.cache))
-    (candidate_split c.args.candidate c.args.cache) _ c.candidate_refusal-refusal.ensures _
+    (candidate_split c.args.candidate c.args.cache) _ c.check_candidate.ensures _
     (ap store_outcome e ∙ candidate_decided c.args.candidate c.args.cache ok)
     (subst (λ (r : BlockCacheStoreResult). Zeroed r) (sym e) (candidate_zeroed c.args.candidate c.args.cache)) c.in_default.is

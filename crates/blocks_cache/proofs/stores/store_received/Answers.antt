@@ -14,17 +14,17 @@ returns-then-not-sound_cache c =
     promised_unsound c.args.cache (store_received c.args.received) _ c.nothing_stored.ensures
     (sym c.sound_cache.ensures ∙ c.if-not-sound_cache.true)
 
-pub returns-in-Number : goal.returns-in-Number
-returns-in-Number c =
+pub returns-in-Err : goal.returns-in-Err
+returns-in-Err c =
     let ok = sym c.sound_cache.ensures ∙ c.if-not-sound_cache.false in
     promised_refused c.args.cache (store_received c.args.received) ok (received_questions c.args.received) (receipt_rest c.args.received (view c.args.cache))
-    (receipt_split c.args.received c.args.cache) _ c.received_refusal-refusal.ensures _ _ c.nothing_stored-in-Number.ensures c.in-Number.is
+    (receipt_split c.args.received c.args.cache) _ c.check_received.ensures _ _ c.nothing_stored-in-Err.ensures c.in-Err.is
 
 pub returns : goal.returns
 returns c =
     let ok = sym c.sound_cache.ensures ∙ c.if-not-sound_cache.false in
     let e = c.store_receipt.ensures in
     promised_rest c.args.cache (store_received c.args.received) ok (received_questions c.args.received) (receipt_rest c.args.received (view c.args.cache))
-    (receipt_split c.args.received c.args.cache) _ c.received_refusal-refusal.ensures _
+    (receipt_split c.args.received c.args.cache) _ c.check_received.ensures _
     (ap store_outcome e ∙ receipt_decided c.args.received c.args.cache ok)
     (subst (λ (r : BlockCacheStoreResult). Zeroed r) (sym e) (receipt_zeroed c.args.received c.args.cache)) c.in_default.is

@@ -1,21 +1,21 @@
+use Rattle.std.specs.Prelude.{cond}
 use Rattle.std.proofs.Common.{◌≡◌, ℕ, ltb, length, take, ap, ◌∙◌, arith, rules}
 use Rattle.block_records.proofs.arrays.ArrayLaws.{splice_after, splice_before, splice_end, splice_here, splice_start, take_within}
 use Rattle.block_records.proofs.arrays.LoopLaws.{length_mapped}
 use Rattle.block_records.specs.arrays.Arrays.{Splices, spliced}
 use Rattle.block_records.specs.rules.Lists.{padded}
-use Rattle.block_records.specs.rules.Lists.{pick}
 use Rattle.blocks_cache.specs.arrays.TailIds.{zero_tail}
 use Rattle.blocks_cache.proofs.tail_ids.put_row_at.Goals as goal
 use Rattle.blocks_cache.proofs.tail_ids.put_row_at.Goals.{then-j-at, else-j-at+then-j-at-2, else-j-at+else-j-at-2}
 
 pub overflow_add-count : goal.overflow_add-count
-overflow_add-count c = let p = (let room : (k : ℕ) → k ≡ pick (ltb c.args.tails.count 17) c.args.tails.count 17 → Splices 17 c.args.at c.args.from k = λ k e. (splice_start 17 zero_tail c.args.at c.args.from c.args.row c.args.tails.rows c.args.tails.count c.requires (let long : length c.args.tails.rows ≡ 17 = search (rules, length_mapped) in long) k e).split in room) c.listed_count-listed.result c.listed_count-listed.ensures in omega arith
+overflow_add-count c = let p = (let room : (k : ℕ) → k ≡ cond (ltb c.args.tails.count 17) c.args.tails.count 17 → Splices 17 c.args.at c.args.from k = λ k e. (splice_start 17 zero_tail c.args.at c.args.from c.args.row c.args.tails.rows c.args.tails.count c.requires (let long : length c.args.tails.rows ≡ 17 = search (rules, length_mapped) in long) k e).split in room) c.listed_count-listed.result c.listed_count-listed.ensures in omega arith
 
 pub overflow_sub-count : goal.overflow_sub-count
-overflow_sub-count c = let p = (let room : (k : ℕ) → k ≡ pick (ltb c.args.tails.count 17) c.args.tails.count 17 → Splices 17 c.args.at c.args.from k = λ k e. (splice_start 17 zero_tail c.args.at c.args.from c.args.row c.args.tails.rows c.args.tails.count c.requires (let long : length c.args.tails.rows ≡ 17 = search (rules, length_mapped) in long) k e).split in room) c.listed_count-listed.result c.listed_count-listed.ensures in omega arith
+overflow_sub-count c = let p = (let room : (k : ℕ) → k ≡ cond (ltb c.args.tails.count 17) c.args.tails.count 17 → Splices 17 c.args.at c.args.from k = λ k e. (splice_start 17 zero_tail c.args.at c.args.from c.args.row c.args.tails.rows c.args.tails.count c.requires (let long : length c.args.tails.rows ≡ 17 = search (rules, length_mapped) in long) k e).split in room) c.listed_count-listed.result c.listed_count-listed.ensures in omega arith
 
 pub overflow_add-count-2 : goal.overflow_add-count-2
-overflow_add-count-2 c = let p = (let room : (k : ℕ) → k ≡ pick (ltb c.args.tails.count 17) c.args.tails.count 17 → Splices 17 c.args.at c.args.from k = λ k e. (splice_start 17 zero_tail c.args.at c.args.from c.args.row c.args.tails.rows c.args.tails.count c.requires (let long : length c.args.tails.rows ≡ 17 = search (rules, length_mapped) in long) k e).split in room) c.listed_count-listed.result c.listed_count-listed.ensures in omega arith
+overflow_add-count-2 c = let p = (let room : (k : ℕ) → k ≡ cond (ltb c.args.tails.count 17) c.args.tails.count 17 → Splices 17 c.args.at c.args.from k = λ k e. (splice_start 17 zero_tail c.args.at c.args.from c.args.row c.args.tails.rows c.args.tails.count c.requires (let long : length c.args.tails.rows ≡ 17 = search (rules, length_mapped) in long) k e).split in room) c.listed_count-listed.result c.listed_count-listed.ensures in omega arith
 
 pub loop-j-init : goal.loop-j-init
 loop-j-init c =

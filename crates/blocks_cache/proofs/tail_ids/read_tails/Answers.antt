@@ -11,4 +11,4 @@ returns-in_default c =
 
 pub returns : goal.returns
 returns c =
-    read_found c.args.seqno c.args.cache c.if-seqno-cache.false _ c.master_at-at.ensures _ c.in-At.is _ c.block_tails-tails.ensures
+    read_found c.args.seqno c.args.cache c.if-seqno-cache.false _ c.master_at-at.ensures _ c.in-Ok.is _ c.block_tails-tails.ensures

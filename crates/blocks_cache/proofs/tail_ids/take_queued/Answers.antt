@@ -37,16 +37,16 @@ loop-j-preserved-in_default c = (
 )
 
 pub offset_bounds-cache-at : goal.offset_bounds-cache-at
-offset_bounds-cache-at c = omega (arith, (let group_place : c.in-At.at < 8 = cached_group_within c.args.cache c.requires.0 _ _ _ c.shard_idents-idents.ensures c.shard_seqnos-seqnos.ensures _ _ (sym c.block_place.ensures ∙ c.in-At.is) in group_place))
+offset_bounds-cache-at c = omega (arith, (let group_place : c.in-Some.at < 8 = cached_group_within c.args.cache c.requires.0 _ _ _ c.shard_idents-idents.ensures c.shard_seqnos-seqnos.ensures _ _ (sym c.block_place.ensures ∙ c.in-Some.is) in group_place))
 
 pub bounds-cache-at : goal.bounds-cache-at
-bounds-cache-at c = omega (arith, (let group_place : c.in-At.at < 8 = cached_group_within c.args.cache c.requires.0 _ _ _ c.shard_idents-idents.ensures c.shard_seqnos-seqnos.ensures _ _ (sym c.block_place.ensures ∙ c.in-At.is) in group_place))
+bounds-cache-at c = omega (arith, (let group_place : c.in-Some.at < 8 = cached_group_within c.args.cache c.requires.0 _ _ _ c.shard_idents-idents.ensures c.shard_seqnos-seqnos.ensures _ _ (sym c.block_place.ensures ∙ c.in-Some.is) in group_place))
 
 pub offset_bounds-group-place : goal.offset_bounds-group-place
-offset_bounds-group-place c = omega (arith, (let entry_place : c.in-At.place < 16 = cached_entry_within c.args.cache c.requires.0 _ _ _ c.shard_idents-idents.ensures c.shard_seqnos-seqnos.ensures _ _ (sym c.block_place.ensures ∙ c.in-At.is) in entry_place))
+offset_bounds-group-place c = omega (arith, (let entry_place : c.in-Some.place < 16 = cached_entry_within c.args.cache c.requires.0 _ _ _ c.shard_idents-idents.ensures c.shard_seqnos-seqnos.ensures _ _ (sym c.block_place.ensures ∙ c.in-Some.is) in entry_place))
 
 pub bounds-group-place : goal.bounds-group-place
-bounds-group-place c = omega (arith, (let entry_place : c.in-At.place < 16 = cached_entry_within c.args.cache c.requires.0 _ _ _ c.shard_idents-idents.ensures c.shard_seqnos-seqnos.ensures _ _ (sym c.block_place.ensures ∙ c.in-At.is) in entry_place))
+bounds-group-place c = omega (arith, (let entry_place : c.in-Some.place < 16 = cached_entry_within c.args.cache c.requires.0 _ _ _ c.shard_idents-idents.ensures c.shard_seqnos-seqnos.ensures _ _ (sym c.block_place.ensures ∙ c.in-Some.is) in entry_place))
 
 pub loop-j-smaller-then-block-mc_seqno : goal.loop-j-smaller-then-block-mc_seqno
 loop-j-smaller-then-block-mc_seqno c = omega (arith, (let few : c.loop-j.count ≤ 256 = waits_few c.loop-j.ids c.loop-j.fingerprints c.loop-j.count c.loop-j.invariant.1.waits in few), c.loop-j-test.true)
@@ -55,7 +55,7 @@ pub loop-j-preserved-then-block-mc_seqno : goal.loop-j-preserved-then-block-mc_s
 loop-j-preserved-then-block-mc_seqno c = (
   (let rows : length c.loop-j.tails.rows ≡ 17 = c.loop-j.invariant.0 in rows),
   queue_skip c.args.cache c.args.mc_seqno c.args.walk c.loop-j.j c.loop-j.tails c.loop-j.ids c.loop-j.fingerprints c.loop-j.count c.loop-j.invariant.1 _ c.loop-j-test.true
-      (step_foreign c.args.cache c.args.mc_seqno false _ c.if-id-eq0.false _ (cached_at_place c.args.cache c.requires.0 _ _ _ c.shard_idents-idents.ensures c.shard_seqnos-seqnos.ensures _ _ (sym c.block_place.ensures ∙ c.in-At.is) _ _) (ne_eqb _ _ c.if-block-mc_seqno.true)),
+      (step_foreign c.args.cache c.args.mc_seqno false _ c.if-id-eq0.false _ (cached_at_place c.args.cache c.requires.0 _ _ _ c.shard_idents-idents.ensures c.shard_seqnos-seqnos.ensures _ _ (sym c.block_place.ensures ∙ c.in-Some.is) _ _) (ne_eqb _ _ c.if-block-mc_seqno.true)),
 )
 
 pub slice_bounds-fingerprints-end : goal.slice_bounds-fingerprints-end
@@ -99,7 +99,7 @@ bounds-fingerprints-count-in-loop-j c = omega (arith, (let few : c.loop-j.count 
 
 pub overflow_add-count : goal.overflow_add-count
 overflow_add-count c =
-    let w = waits_more c.args.cache c.args.mc_seqno false c.loop-j.tails c.loop-j.ids c.loop-j.fingerprints c.loop-j.count c.loop-j.invariant.1.waits _ _ (step_cached c.args.cache c.args.mc_seqno false _ c.if-id-eq0.false _ (cached_at_place c.args.cache c.requires.0 _ _ _ c.shard_idents-idents.ensures c.shard_seqnos-seqnos.ensures _ _ (sym c.block_place.ensures ∙ c.in-At.is) _ _) (eq-eqb _ _ c.if-block-mc_seqno.false)) _ c.next_ids-fresh.ensures (let two : length c.next_ids-fresh.result.ids ≡ 2 = search (rules, length_mapped) in two) _ _ _ _ c.fingerprint.ensures c.fingerprint-in-loop-j.ensures in
+    let w = waits_more c.args.cache c.args.mc_seqno false c.loop-j.tails c.loop-j.ids c.loop-j.fingerprints c.loop-j.count c.loop-j.invariant.1.waits _ _ (step_cached c.args.cache c.args.mc_seqno false _ c.if-id-eq0.false _ (cached_at_place c.args.cache c.requires.0 _ _ _ c.shard_idents-idents.ensures c.shard_seqnos-seqnos.ensures _ _ (sym c.block_place.ensures ∙ c.in-Some.is) _ _) (eq-eqb _ _ c.if-block-mc_seqno.false)) _ c.next_ids-fresh.ensures (let two : length c.next_ids-fresh.result.items ≡ 2 = search (rules, length_mapped) in two) _ _ _ _ c.fingerprint.ensures c.fingerprint-in-loop-j.ensures in
     omega (arith, waits_few _ _ _ w)
 
 pub loop-j-smaller-in_default-row_place : goal.loop-j-smaller-in_default-row_place
@@ -108,24 +108,24 @@ loop-j-smaller-in_default-row_place c = omega (arith, (let few : c.loop-j.count 
 pub loop-j-preserved-in_default-row_place : goal.loop-j-preserved-in_default-row_place
 loop-j-preserved-in_default-row_place c = (
   (let held : length c.hold_row-tails.result.rows ≡ 17 = search (rules, length_mapped) in held),
-  queue_next c.args.cache c.args.mc_seqno c.args.walk c.loop-j.j c.loop-j.tails c.loop-j.ids c.loop-j.fingerprints c.loop-j.count c.loop-j.invariant.1 _ c.loop-j-test.true _ (step_cached c.args.cache c.args.mc_seqno false _ c.if-id-eq0.false _ (cached_at_place c.args.cache c.requires.0 _ _ _ c.shard_idents-idents.ensures c.shard_seqnos-seqnos.ensures _ _ (sym c.block_place.ensures ∙ c.in-At.is) _ _) (eq-eqb _ _ c.if-block-mc_seqno.false)) _ (c.hold_row-tails.ensures ∙ ap (λ r. hold_row r c.loop-j.tails) c.cached_row-row.ensures) _ c.next_ids-fresh.ensures (let two : length c.next_ids-fresh.result.ids ≡ 2 = search (rules, length_mapped) in two) _ _ _ _ c.fingerprint.ensures c.fingerprint-in-loop-j.ensures,
+  queue_next c.args.cache c.args.mc_seqno c.args.walk c.loop-j.j c.loop-j.tails c.loop-j.ids c.loop-j.fingerprints c.loop-j.count c.loop-j.invariant.1 _ c.loop-j-test.true _ (step_cached c.args.cache c.args.mc_seqno false _ c.if-id-eq0.false _ (cached_at_place c.args.cache c.requires.0 _ _ _ c.shard_idents-idents.ensures c.shard_seqnos-seqnos.ensures _ _ (sym c.block_place.ensures ∙ c.in-Some.is) _ _) (eq-eqb _ _ c.if-block-mc_seqno.false)) _ (c.hold_row-tails.ensures ∙ ap (λ r. hold_row r c.loop-j.tails) c.cached_row-row.ensures) _ c.next_ids-fresh.ensures (let two : length c.next_ids-fresh.result.items ≡ 2 = search (rules, length_mapped) in two) _ _ _ _ c.fingerprint.ensures c.fingerprint-in-loop-j.ensures,
 )
 
 pub offset_bounds-tails-at : goal.offset_bounds-tails-at
 offset_bounds-tails-at c =
-    omega (arith, row_listed c.loop-j.tails (let rows : length c.loop-j.tails.rows ≡ 17 = c.loop-j.invariant.0 in rows) c.cached_row-row.result _ (sym c.row_place.ensures ∙ c.in-At-row_place.is))
+    omega (arith, row_listed c.loop-j.tails (let rows : length c.loop-j.tails.rows ≡ 17 = c.loop-j.invariant.0 in rows) c.cached_row-row.result _ (sym c.row_place.ensures ∙ c.in-Ok.is))
 
 pub bounds-tails-at : goal.bounds-tails-at
 bounds-tails-at c =
-    omega (arith, row_listed c.loop-j.tails (let rows : length c.loop-j.tails.rows ≡ 17 = c.loop-j.invariant.0 in rows) c.cached_row-row.result _ (sym c.row_place.ensures ∙ c.in-At-row_place.is))
+    omega (arith, row_listed c.loop-j.tails (let rows : length c.loop-j.tails.rows ≡ 17 = c.loop-j.invariant.0 in rows) c.cached_row-row.result _ (sym c.row_place.ensures ∙ c.in-Ok.is))
 
 pub offset_bounds-tails-at-then-replaces_last : goal.offset_bounds-tails-at-then-replaces_last
 offset_bounds-tails-at-then-replaces_last c =
-    omega (arith, row_listed c.loop-j.tails (let rows : length c.loop-j.tails.rows ≡ 17 = c.loop-j.invariant.0 in rows) c.cached_row-row.result _ (sym c.row_place.ensures ∙ c.in-At-row_place.is))
+    omega (arith, row_listed c.loop-j.tails (let rows : length c.loop-j.tails.rows ≡ 17 = c.loop-j.invariant.0 in rows) c.cached_row-row.result _ (sym c.row_place.ensures ∙ c.in-Ok.is))
 
 pub bounds-tails-at-then-replaces_last : goal.bounds-tails-at-then-replaces_last
 bounds-tails-at-then-replaces_last c =
-    omega (arith, row_listed c.loop-j.tails (let rows : length c.loop-j.tails.rows ≡ 17 = c.loop-j.invariant.0 in rows) c.cached_row-row.result _ (sym c.row_place.ensures ∙ c.in-At-row_place.is))
+    omega (arith, row_listed c.loop-j.tails (let rows : length c.loop-j.tails.rows ≡ 17 = c.loop-j.invariant.0 in rows) c.cached_row-row.result _ (sym c.row_place.ensures ∙ c.in-Ok.is))
 
 pub loop-j-smaller-then-replaces_last : goal.loop-j-smaller-then-replaces_last
 loop-j-smaller-then-replaces_last c = omega (arith, (let few : c.loop-j.count ≤ 256 = waits_few c.loop-j.ids c.loop-j.fingerprints c.loop-j.count c.loop-j.invariant.1.waits in few), c.loop-j-test.true)
@@ -133,7 +133,7 @@ loop-j-smaller-then-replaces_last c = omega (arith, (let few : c.loop-j.count �
 pub loop-j-preserved-then-replaces_last : goal.loop-j-preserved-then-replaces_last
 loop-j-preserved-then-replaces_last c = (
   length-set c.loop-j.tails.rows _ _ ∙ (let rows : length c.loop-j.tails.rows ≡ 17 = c.loop-j.invariant.0 in rows),
-  queue_next c.args.cache c.args.mc_seqno c.args.walk c.loop-j.j c.loop-j.tails c.loop-j.ids c.loop-j.fingerprints c.loop-j.count c.loop-j.invariant.1 _ c.loop-j-test.true _ (step_cached c.args.cache c.args.mc_seqno false _ c.if-id-eq0.false _ (cached_at_place c.args.cache c.requires.0 _ _ _ c.shard_idents-idents.ensures c.shard_seqnos-seqnos.ensures _ _ (sym c.block_place.ensures ∙ c.in-At.is) _ _) (eq-eqb _ _ c.if-block-mc_seqno.false)) _ (hold_replaces c.loop-j.tails (let rows : length c.loop-j.tails.rows ≡ 17 = c.loop-j.invariant.0 in rows) c.cached_row-row.result _ (sym c.row_place.ensures ∙ c.in-At-row_place.is) _ (sym c.replaces_last.ensures ∙ c.if-replaces_last.true) ∙ ap (λ r. hold_row r c.loop-j.tails) c.cached_row-row.ensures) _ c.next_ids-fresh.ensures (let two : length c.next_ids-fresh.result.ids ≡ 2 = search (rules, length_mapped) in two) _ _ _ _ c.fingerprint.ensures c.fingerprint-in-loop-j.ensures,
+  queue_next c.args.cache c.args.mc_seqno c.args.walk c.loop-j.j c.loop-j.tails c.loop-j.ids c.loop-j.fingerprints c.loop-j.count c.loop-j.invariant.1 _ c.loop-j-test.true _ (step_cached c.args.cache c.args.mc_seqno false _ c.if-id-eq0.false _ (cached_at_place c.args.cache c.requires.0 _ _ _ c.shard_idents-idents.ensures c.shard_seqnos-seqnos.ensures _ _ (sym c.block_place.ensures ∙ c.in-Some.is) _ _) (eq-eqb _ _ c.if-block-mc_seqno.false)) _ (hold_replaces c.loop-j.tails (let rows : length c.loop-j.tails.rows ≡ 17 = c.loop-j.invariant.0 in rows) c.cached_row-row.result _ (sym c.row_place.ensures ∙ c.in-Ok.is) _ (sym c.replaces_last.ensures ∙ c.if-replaces_last.true) ∙ ap (λ r. hold_row r c.loop-j.tails) c.cached_row-row.ensures) _ c.next_ids-fresh.ensures (let two : length c.next_ids-fresh.result.items ≡ 2 = search (rules, length_mapped) in two) _ _ _ _ c.fingerprint.ensures c.fingerprint-in-loop-j.ensures,
 )
 
 pub loop-j-smaller : goal.loop-j-smaller
@@ -142,7 +142,7 @@ loop-j-smaller c = omega (arith, (let few : c.loop-j.count ≤ 256 = waits_few c
 pub loop-j-preserved : goal.loop-j-preserved
 loop-j-preserved c = (
   (let rows : length c.loop-j.tails.rows ≡ 17 = c.loop-j.invariant.0 in rows),
-  queue_next c.args.cache c.args.mc_seqno c.args.walk c.loop-j.j c.loop-j.tails c.loop-j.ids c.loop-j.fingerprints c.loop-j.count c.loop-j.invariant.1 _ c.loop-j-test.true _ (step_cached c.args.cache c.args.mc_seqno false _ c.if-id-eq0.false _ (cached_at_place c.args.cache c.requires.0 _ _ _ c.shard_idents-idents.ensures c.shard_seqnos-seqnos.ensures _ _ (sym c.block_place.ensures ∙ c.in-At.is) _ _) (eq-eqb _ _ c.if-block-mc_seqno.false)) _ (hold_keeps c.loop-j.tails (let rows : length c.loop-j.tails.rows ≡ 17 = c.loop-j.invariant.0 in rows) c.cached_row-row.result _ (sym c.row_place.ensures ∙ c.in-At-row_place.is) _ (sym c.replaces_last.ensures ∙ c.if-replaces_last.false) ∙ ap (λ r. hold_row r c.loop-j.tails) c.cached_row-row.ensures) _ c.next_ids-fresh.ensures (let two : length c.next_ids-fresh.result.ids ≡ 2 = search (rules, length_mapped) in two) _ _ _ _ c.fingerprint.ensures c.fingerprint-in-loop-j.ensures,
+  queue_next c.args.cache c.args.mc_seqno c.args.walk c.loop-j.j c.loop-j.tails c.loop-j.ids c.loop-j.fingerprints c.loop-j.count c.loop-j.invariant.1 _ c.loop-j-test.true _ (step_cached c.args.cache c.args.mc_seqno false _ c.if-id-eq0.false _ (cached_at_place c.args.cache c.requires.0 _ _ _ c.shard_idents-idents.ensures c.shard_seqnos-seqnos.ensures _ _ (sym c.block_place.ensures ∙ c.in-Some.is) _ _) (eq-eqb _ _ c.if-block-mc_seqno.false)) _ (hold_keeps c.loop-j.tails (let rows : length c.loop-j.tails.rows ≡ 17 = c.loop-j.invariant.0 in rows) c.cached_row-row.result _ (sym c.row_place.ensures ∙ c.in-Ok.is) _ (sym c.replaces_last.ensures ∙ c.if-replaces_last.false) ∙ ap (λ r. hold_row r c.loop-j.tails) c.cached_row-row.ensures) _ c.next_ids-fresh.ensures (let two : length c.next_ids-fresh.result.items ≡ 2 = search (rules, length_mapped) in two) _ _ _ _ c.fingerprint.ensures c.fingerprint-in-loop-j.ensures,
 )
 
 pub returns : goal.returns

@@ -1,7 +1,8 @@
+use Rattle.std.specs.List.{fold}
+use Rattle.std.specs.Prelude.{map}
 use Rattle.std.proofs.Common.{◌≡◌, ◌<◌, ◌≤◌, true, [], length, take, sym, refl, ap, ◌∙◌, arith, length-take-le, rules}
 use Rattle.block_records.proofs.arrays.ArrayLaws.{take_within, within_few}
 use Rattle.block_records.proofs.arrays.LoopLaws.{length_mapped}
-use Rattle.block_records.specs.rules.Lists.{each, fold}
 use Rattle.cache_rules.specs.Extraction.{top_id}
 use Rattle.blocks_cache.specs.arrays.TailIds.{hold_row, pack_walk, take_tail_id}
 use Rattle.blocks_cache.proofs.arrays.LookupLaws.{cached_at_place, cached_entry_within, cached_group_within, not_cached}
@@ -38,16 +39,16 @@ loop-i-preserved-in_default c =
     _ (step_missing c.args.cache c.args.mc_seqno true _ c.if-id-eq0.false (not_cached c.args.cache c.requires _ _ _ c.shard_idents-idents.ensures c.shard_seqnos-seqnos.ensures (sym c.block_place.ensures ∙ c.in_default.is)) refl) refl _ (c.hold_row-tails.ensures ∙ ap (λ r. hold_row r c.loop-i.tails) c.missing_row-row.ensures)
 
 pub offset_bounds-cache-at : goal.offset_bounds-cache-at
-offset_bounds-cache-at c = omega (arith, (let group_place : c.in-At.at < 8 = cached_group_within c.args.cache c.requires _ _ _ c.shard_idents-idents.ensures c.shard_seqnos-seqnos.ensures _ _ (sym c.block_place.ensures ∙ c.in-At.is) in group_place))
+offset_bounds-cache-at c = omega (arith, (let group_place : c.in-Some.at < 8 = cached_group_within c.args.cache c.requires _ _ _ c.shard_idents-idents.ensures c.shard_seqnos-seqnos.ensures _ _ (sym c.block_place.ensures ∙ c.in-Some.is) in group_place))
 
 pub bounds-cache-at : goal.bounds-cache-at
-bounds-cache-at c = omega (arith, (let group_place : c.in-At.at < 8 = cached_group_within c.args.cache c.requires _ _ _ c.shard_idents-idents.ensures c.shard_seqnos-seqnos.ensures _ _ (sym c.block_place.ensures ∙ c.in-At.is) in group_place))
+bounds-cache-at c = omega (arith, (let group_place : c.in-Some.at < 8 = cached_group_within c.args.cache c.requires _ _ _ c.shard_idents-idents.ensures c.shard_seqnos-seqnos.ensures _ _ (sym c.block_place.ensures ∙ c.in-Some.is) in group_place))
 
 pub offset_bounds-group-place : goal.offset_bounds-group-place
-offset_bounds-group-place c = omega (arith, (let entry_place : c.in-At.place < 16 = cached_entry_within c.args.cache c.requires _ _ _ c.shard_idents-idents.ensures c.shard_seqnos-seqnos.ensures _ _ (sym c.block_place.ensures ∙ c.in-At.is) in entry_place))
+offset_bounds-group-place c = omega (arith, (let entry_place : c.in-Some.place < 16 = cached_entry_within c.args.cache c.requires _ _ _ c.shard_idents-idents.ensures c.shard_seqnos-seqnos.ensures _ _ (sym c.block_place.ensures ∙ c.in-Some.is) in entry_place))
 
 pub bounds-group-place : goal.bounds-group-place
-bounds-group-place c = omega (arith, (let entry_place : c.in-At.place < 16 = cached_entry_within c.args.cache c.requires _ _ _ c.shard_idents-idents.ensures c.shard_seqnos-seqnos.ensures _ _ (sym c.block_place.ensures ∙ c.in-At.is) in entry_place))
+bounds-group-place c = omega (arith, (let entry_place : c.in-Some.place < 16 = cached_entry_within c.args.cache c.requires _ _ _ c.shard_idents-idents.ensures c.shard_seqnos-seqnos.ensures _ _ (sym c.block_place.ensures ∙ c.in-Some.is) in entry_place))
 
 pub slice_bounds-fingerprints-end : goal.slice_bounds-fingerprints-end
 slice_bounds-fingerprints-end c = omega (arith, (let few : c.loop-i.count ≤ 256 = waits_few c.loop-i.ids c.loop-i.fingerprints c.loop-i.count c.loop-i.invariant.waits in few), (let prints : length c.loop-i.fingerprints ≡ 258 = waits_length c.loop-i.ids c.loop-i.fingerprints c.loop-i.count c.loop-i.invariant.waits in prints))
@@ -90,7 +91,7 @@ bounds-fingerprints-count-in-loop-i c = omega (arith, (let few : c.loop-i.count 
 
 pub overflow_add-count : goal.overflow_add-count
 overflow_add-count c =
-    let w = waits_more c.args.cache c.args.mc_seqno true c.loop-i.tails c.loop-i.ids c.loop-i.fingerprints c.loop-i.count c.loop-i.invariant.waits _ _ (step_cached c.args.cache c.args.mc_seqno true _ c.if-id-eq0.false _ (cached_at_place c.args.cache c.requires _ _ _ c.shard_idents-idents.ensures c.shard_seqnos-seqnos.ensures _ _ (sym c.block_place.ensures ∙ c.in-At.is) _ _) refl) _ c.next_ids-fresh.ensures (let two : length c.next_ids-fresh.result.ids ≡ 2 = search (rules, length_mapped) in two) _ _ _ _ c.fingerprint.ensures c.fingerprint-in-loop-i.ensures in
+    let w = waits_more c.args.cache c.args.mc_seqno true c.loop-i.tails c.loop-i.ids c.loop-i.fingerprints c.loop-i.count c.loop-i.invariant.waits _ _ (step_cached c.args.cache c.args.mc_seqno true _ c.if-id-eq0.false _ (cached_at_place c.args.cache c.requires _ _ _ c.shard_idents-idents.ensures c.shard_seqnos-seqnos.ensures _ _ (sym c.block_place.ensures ∙ c.in-Some.is) _ _) refl) _ c.next_ids-fresh.ensures (let two : length c.next_ids-fresh.result.items ≡ 2 = search (rules, length_mapped) in two) _ _ _ _ c.fingerprint.ensures c.fingerprint-in-loop-i.ensures in
     omega (arith, waits_few _ _ _ w)
 
 pub loop-i-smaller : goal.loop-i-smaller
@@ -98,11 +99,11 @@ loop-i-smaller c = omega (arith, c.loop-i-test.true)
 
 pub loop-i-preserved : goal.loop-i-preserved
 loop-i-preserved c =
-    tops_next c.args.cache c.args.mc_seqno c.args.tops.items _ _ c.loop-i.i c.loop-i.tails c.loop-i.ids c.loop-i.fingerprints c.loop-i.count c.loop-i.invariant _ (omega (arith, (let few_items : c.listed_count-listed.result ≤ 8 = rw c.listed_count-listed.ensures (within_few 8 c.args.tops.count) in few_items), (let long : length c.args.tops.items ≡ 8 = search (rules, length_mapped) in long), c.loop-i-test.true)) c.loop-i-test.true _ (step_cached c.args.cache c.args.mc_seqno true _ c.if-id-eq0.false _ (cached_at_place c.args.cache c.requires _ _ _ c.shard_idents-idents.ensures c.shard_seqnos-seqnos.ensures _ _ (sym c.block_place.ensures ∙ c.in-At.is) _ _) refl) _ (c.hold_row-tails-in-loop-i.ensures ∙ ap (λ r. hold_row r c.loop-i.tails) c.cached_row-row.ensures) _ c.next_ids-fresh.ensures (let two : length c.next_ids-fresh.result.ids ≡ 2 = search (rules, length_mapped) in two) _ _ _ _ c.fingerprint.ensures c.fingerprint-in-loop-i.ensures
+    tops_next c.args.cache c.args.mc_seqno c.args.tops.items _ _ c.loop-i.i c.loop-i.tails c.loop-i.ids c.loop-i.fingerprints c.loop-i.count c.loop-i.invariant _ (omega (arith, (let few_items : c.listed_count-listed.result ≤ 8 = rw c.listed_count-listed.ensures (within_few 8 c.args.tops.count) in few_items), (let long : length c.args.tops.items ≡ 8 = search (rules, length_mapped) in long), c.loop-i-test.true)) c.loop-i-test.true _ (step_cached c.args.cache c.args.mc_seqno true _ c.if-id-eq0.false _ (cached_at_place c.args.cache c.requires _ _ _ c.shard_idents-idents.ensures c.shard_seqnos-seqnos.ensures _ _ (sym c.block_place.ensures ∙ c.in-Some.is) _ _) refl) _ (c.hold_row-tails-in-loop-i.ensures ∙ ap (λ r. hold_row r c.loop-i.tails) c.cached_row-row.ensures) _ c.next_ids-fresh.ensures (let two : length c.next_ids-fresh.result.items ≡ 2 = search (rules, length_mapped) in two) _ _ _ _ c.fingerprint.ensures c.fingerprint-in-loop-i.ensures
 
 pub returns : goal.returns
 returns c =
     let same = ap (λ k. take k c.args.tops.items) c.listed_count-listed.ensures ∙ take_within 8 c.args.tops.count c.args.tops.items (let long : length c.args.tops.items ≡ 8 = search (rules, length_mapped) in long) in
     tops_passed c.args.cache c.args.mc_seqno c.args.tops.items _ _ c.loop-i.i c.loop-i.tails c.loop-i.ids c.loop-i.fingerprints c.loop-i.count c.loop-i.invariant c.loop-i-test.false
-    ∙ ap (λ ts. pack_walk (fold (take_tail_id c.args.cache c.args.mc_seqno true) (record { tails = c.one_row-tails.result; known = [] }) (each top_id ts))) same
-    ∙ ap (λ t. pack_walk (fold (take_tail_id c.args.cache c.args.mc_seqno true) (record { tails = t; known = [] }) (each top_id (take c.args.tops.count c.args.tops.items)))) c.one_row-tails.ensures
+    ∙ ap (λ ts. pack_walk (fold (take_tail_id c.args.cache c.args.mc_seqno true) (record { tails = c.one_row-tails.result; known = [] }) (map top_id ts))) same
+    ∙ ap (λ t. pack_walk (fold (take_tail_id c.args.cache c.args.mc_seqno true) (record { tails = t; known = [] }) (map top_id (take c.args.tops.count c.args.tops.items)))) c.one_row-tails.ensures

@@ -8,8 +8,8 @@ returns-in_default c = validate_vacant _ _ c.args.cache _ c.master_at-at.ensures
 
 pub returns-then-not-kind : goal.returns-then-not-kind
 returns-then-not-kind c =
-    validate_kept _ _ c.args.cache _ c.master_at-at.ensures _ c.in-At.is _ c.validated_kind-kind.ensures (not-true _ c.if-not-kind.true)
+    validate_kept _ _ c.args.cache _ c.master_at-at.ensures _ c.in-Ok.is _ c.validated_kind-kind.ensures (not-true _ c.if-not-kind.true)
 
 pub returns : goal.returns
 returns c =
-    validate_set _ _ c.args.cache _ c.master_at-at.ensures _ c.in-At.is _ c.validated_kind-kind.ensures (not-false _ c.if-not-kind.false) _ _ _ _ c.with_data-entry.ensures c.put_master-masters.ensures c.with_master_group-cache.ensures c.result_status-new.ensures
+    validate_set _ _ c.args.cache _ c.master_at-at.ensures _ c.in-Ok.is _ c.validated_kind-kind.ensures (not-false _ c.if-not-kind.false) _ _ _ _ c.with_data-entry.ensures c.put_master-masters.ensures c.with_master_group-cache.ensures c.result_status-new.ensures

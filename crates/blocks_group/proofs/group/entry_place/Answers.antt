@@ -1,3 +1,4 @@
+use Rattle.std.specs.Prelude.{map}
 use mathlib.Core.Path.{◌∙◌, ◌≡◌, ap, refl, sym}
 use native.Mathlib.Omega.{arith}
 use borrow.Author.Rules.{rules}
@@ -5,7 +6,6 @@ use lib.ListN.{length, length-set, take}
 use lib.Seq.{length-take-le}
 use Rattle.block_records.proofs.arrays.ArrayLaws.{each_end, each_next, length_each_take, take_padded_at, take_within, within_few}
 use Rattle.block_records.proofs.arrays.LoopLaws.{length_mapped, padded_nil}
-use Rattle.block_records.specs.rules.Lists.{each}
 use Rattle.blocks_group.specs.arrays.Search.{seqno_place}
 use Rattle.blocks_group.specs.arrays.Group.{held_seqno}
 use Rattle.blocks_group.proofs.group.entry_place.Goals as goal
@@ -37,4 +37,4 @@ returns c =
     c.search.ensures
     ∙ ap (seqno_place c.args.seqno)
     (ap (take n) e ∙ take_padded_at 16 0 _ _ m
-    ∙ ap (each held_seqno) (ap (λ j. take j c.args.group.entries) k ∙ take_within 16 c.args.group.count c.args.group.entries l))
+    ∙ ap (map held_seqno) (ap (λ j. take j c.args.group.entries) k ∙ take_within 16 c.args.group.count c.args.group.entries l))

@@ -1,10 +1,11 @@
+use Rattle.std.specs.Prelude.{map}
 use mathlib.Core.Path.{◌∙◌, ◌≡◌, ap, sym}
 use mathlib.Core.Bool.{false}
 use native.Mathlib.Omega.{arith}
 use lib.ListN.{length, length-set, take}
 use Rattle.block_records.proofs.arrays.ArrayLaws.{each_end, each_next, take_within, within_few}
 use Rattle.block_records.proofs.arrays.LoopLaws.{length_mapped, padded_nil}
-use Rattle.block_records.specs.rules.Lists.{each, padded}
+use Rattle.block_records.specs.rules.Lists.{padded}
 use Rattle.blocks_group.specs.arrays.Group.{retains}
 use borrow.Author.Rules.{rules}
 use Rattle.blocks_group.proofs.group.keep_flags.Goals as goal
@@ -30,5 +31,5 @@ returns c =
     let n = c.listed_count-count.result in
     let k = c.listed_count-count.ensures in
     each_end (retains c.args.rule) 16 false n c.args.group.entries h.keep h.i (omega arith) h.invariant.1 h.invariant.3 c.loop-i-test.false
-    ∙ ap (λ j. padded 16 false (each (retains c.args.rule) (take j c.args.group.entries))) k
-    ∙ ap (λ xs. padded 16 false (each (retains c.args.rule) xs)) (take_within 16 c.args.group.count c.args.group.entries l)
+    ∙ ap (λ j. padded 16 false (map (retains c.args.rule) (take j c.args.group.entries))) k
+    ∙ ap (λ xs. padded 16 false (map (retains c.args.rule) xs)) (take_within 16 c.args.group.count c.args.group.entries l)

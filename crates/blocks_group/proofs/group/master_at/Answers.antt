@@ -1,10 +1,10 @@
 -- The entry at the place that the search finds, and the top items beside it.
+use Rattle.std.specs.Prelude.{Ok}
 use mathlib.Core.Path.{◌∙◌, ◌≡◌, ap, sym}
 use lib.ListN.{length}
 use Rattle.block_records.specs.declared.entry.MasterBlock.{MasterBlock}
 use Rattle.block_records.specs.layout.Zeros.{zero_entry, zero_tops}
 use Rattle.block_records.proofs.arrays.LoopLaws.{length_mapped}
-use Rattle.block_records.specs.declared.place.Place.TheVariants.{At as place_at}
 use Rattle.blocks_group.specs.arrays.Search.{seqno_place}
 use Rattle.blocks_group.specs.arrays.Group.{listed_seqnos}
 use Rattle.blocks_group.proofs.arrays.GroupStepLaws.{master_found, master_vacant}
@@ -17,6 +17,6 @@ returns-in_default c =
 
 pub returns : goal.returns
 returns c =
-    let k = c.in-At.at in
-    ap (λ (b : MasterBlock). record { found = place_at k; block = b }) c.master_in_place-block.ensures
-    ∙ master_found c.args.masters (let len : length c.args.masters.group.entries ≡ 16 = search (rules, length_mapped) in len) (let len_tops : length c.args.masters.tops ≡ 16 = search (rules, length_mapped) in len_tops) c.args.seqno k (let at : seqno_place c.args.seqno (listed_seqnos c.args.masters.group) ≡ place_at c.in-At.at = sym c.entry_place-found.ensures ∙ c.in-At.is in at) zero_entry zero_tops
+    let k = c.in-Ok.at in
+    ap (λ (b : MasterBlock). record { found = Ok k; block = b }) c.master_in_place-block.ensures
+    ∙ master_found c.args.masters (let len : length c.args.masters.group.entries ≡ 16 = search (rules, length_mapped) in len) (let len_tops : length c.args.masters.tops ≡ 16 = search (rules, length_mapped) in len_tops) c.args.seqno k (let at : seqno_place c.args.seqno (listed_seqnos c.args.masters.group) ≡ Ok c.in-Ok.at = sym c.entry_place-found.ensures ∙ c.in-Ok.is in at) zero_entry zero_tops

@@ -7,4 +7,4 @@ pub returns-in_default : goal.returns-in_default
 returns-in_default c = highest_none _ c.args.group c.in_default.is
 
 pub returns : goal.returns
-returns c = c.highest_below.ensures ∙ highest_at _ _ c.args.group c.in-At.is
+returns c = c.highest_below.ensures ∙ highest_at _ _ c.args.group c.in-Some.is

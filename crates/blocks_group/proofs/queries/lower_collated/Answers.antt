@@ -7,14 +7,14 @@ use Rattle.blocks_group.proofs.queries.lower_collated.Goals as goal
 pub returns-then-not-held_collated_above : goal.returns-then-not-held_collated_above
 returns-then-not-held_collated_above c = best_kept lower_of c.args.best _ _ (sym c.held_collated_above.ensures ∙ c.if-not-held_collated_above.true)
 
-pub returns-in-Absent : goal.returns-in-Absent
-returns-in-Absent c =
-    best_first lower_of c.args.best _ _ (sym c.held_collated_above.ensures ∙ c.if-not-held_collated_above.false) c.in-Absent.is
+pub returns-in-None : goal.returns-in-None
+returns-in-None c =
+    best_first lower_of c.args.best _ _ (sym c.held_collated_above.ensures ∙ c.if-not-held_collated_above.false) c.in-None.is
 
 pub returns-then-own-known : goal.returns-then-own-known
 returns-then-own-known c =
-    best_chosen lower_of c.args.best _ _ _ _ (sym c.held_collated_above.ensures ∙ c.if-not-held_collated_above.false) c.in-At.is (lower_new _ _ c.if-own-known.true)
+    best_chosen lower_of c.args.best _ _ _ _ (sym c.held_collated_above.ensures ∙ c.if-not-held_collated_above.false) c.in-Some.is (lower_new _ _ c.if-own-known.true)
 
 pub returns-else-own-known : goal.returns-else-own-known
 returns-else-own-known c =
-    best_chosen lower_of c.args.best _ _ _ _ (sym c.held_collated_above.ensures ∙ c.if-not-held_collated_above.false) c.in-At.is (lower_old _ _ c.if-own-known.false)
+    best_chosen lower_of c.args.best _ _ _ _ (sym c.held_collated_above.ensures ∙ c.if-not-held_collated_above.false) c.in-Some.is (lower_old _ _ c.if-own-known.false)

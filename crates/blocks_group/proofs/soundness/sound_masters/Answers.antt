@@ -1,7 +1,7 @@
+use Rattle.std.specs.List.{list_all}
 use mathlib.Core.Path.{◌≡◌, ap, sym, ◌∙◌}
 use lib.ListN.{length}
 use Rattle.block_records.proofs.arrays.LoopLaws.{left_start, length_mapped}
-use Rattle.block_records.specs.rules.Lists.{every}
 use Rattle.blocks_group.specs.arrays.Group.{beside}
 use Rattle.blocks_group.specs.arrays.Soundness.{sound_master}
 use Rattle.blocks_group.proofs.arrays.LoopLaws.{beside_take, masters_next, masters_over, masters_passed, masters_stop}
@@ -12,7 +12,7 @@ pub loop-i-init : goal.loop-i-init
 loop-i-init c =
     let b = c.args.group.entries in
     let k = c.args.group.count in
-    (search rules, ap (every sound_master) (beside_take k b c.args.tops ∙ sym (left_start (beside b c.args.tops) k)))
+    (search rules, ap (list_all sound_master) (beside_take k b c.args.tops ∙ sym (left_start (beside b c.args.tops) k)))
 
 pub returns-then-count-i : goal.returns-then-count-i
 returns-then-count-i c =

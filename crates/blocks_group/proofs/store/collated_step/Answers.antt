@@ -12,12 +12,12 @@ returns-in_default c = c.refused_step.ensures ∙ collated_full c.args.c c.args.
 
 pub returns-then-not-held_received : goal.returns-then-not-held_received
 returns-then-not-held_received c =
-    c.refused_step-then-not-held_received.ensures ∙ collated_again c.args.c c.args.room c.args.found c.args.block _ c.in-At.is (sym c.held_received.ensures ∙ c.if-not-held_received.true)
+    c.refused_step-then-not-held_received.ensures ∙ collated_again c.args.c c.args.room c.args.found c.args.block _ c.in-Ok.is (sym c.held_received.ensures ∙ c.if-not-held_received.true)
 
 pub returns-then-not-same_id : goal.returns-then-not-same_id
 returns-then-not-same_id c =
-    c.kept_step.ensures ∙ collated_other c.args.c c.args.room c.args.found c.args.block _ c.in-At.is (sym c.held_received.ensures ∙ c.if-not-held_received.false) (sym c.same_id.ensures ∙ c.if-not-same_id.true)
+    c.kept_step.ensures ∙ collated_other c.args.c c.args.room c.args.found c.args.block _ c.in-Ok.is (sym c.held_received.ensures ∙ c.if-not-held_received.false) (sym c.same_id.ensures ∙ c.if-not-same_id.true)
 
 pub returns : goal.returns
 returns c =
-    c.stored_step-2.ensures ∙ collated_same c.args.c c.args.room c.args.found c.args.block _ c.in-At.is (sym c.held_received.ensures ∙ c.if-not-held_received.false) _ _ (sym c.same_id.ensures ∙ c.if-not-same_id.false) c.collated_kind-kind.ensures c.with_block_data-both.ensures
+    c.stored_step-2.ensures ∙ collated_same c.args.c c.args.room c.args.found c.args.block _ c.in-Ok.is (sym c.held_received.ensures ∙ c.if-not-held_received.false) _ _ (sym c.same_id.ensures ∙ c.if-not-same_id.false) c.collated_kind-kind.ensures c.with_block_data-both.ensures

@@ -1,0 +1,137 @@
+// Lists in a fixed number of places: no memory is asked for, and a count says how many places are listed.
+ghost use Rattle.std.specs.declared.cmp.Ordering.{Ordering};
+ghost use Rattle.std.specs.Ordering.{is_eq, is_lt};
+ghost use Rattle.std.specs.Prelude.{◌≡◌, ◌+◌, ◌++◌, ◌≤◌, [], ◌∷◌, Bool, drop, filter, length, take};
+ghost use Rattle.block_records.specs.arrays.Arrays.{Splices, spliced};
+ghost use Rattle.block_records.specs.arrays.Place.{listed_count, place};
+ghost use Rattle.block_records.specs.layout.Listed.{packed};
+
+use std::cmp::Ordering;
+
+// Items in N places, as many as the count says. The count comes from outside: one past the places lists them all.
+#[derive(Clone, Copy, Debug, PartialEq, Eq)]
+pub struct Listed<T, const N: usize> {
+    pub count: usize,
+    pub items: [T; N],
+}
+
+impl<T, const N: usize> Listed<T, N> {
+    // The items below the count.
+    pub fn listed(&self) -> &[T]
+        ensures { result.now ≡ take self.now.count self.now.items }
+    {
+        if self.count < N {
+            &self.items[..self.count]
+        } else {
+            &self.items
+        }
+    }
+
+    // What stands in the places after them.
+    pub fn unlisted(&self) -> &[T]
+        ensures { result.now ≡ drop self.now.count self.now.items }
+    {
+        from_place(&self.items, self.count)
+    }
+}
+
+impl<T: Copy, const N: usize> Listed<T, N> {
+    // No item, zeros in every place.
+    pub fn empty(zero: T) -> Self
+        ensures { result ≡ packed N zero [] }
+    {
+        Listed {
+            count: 0,
+            items: [zero; N],
+        }
+    }
+
+    // The items below the count, and zeros after them, whatever the caller left there.
+    pub fn stored(&self, zero: T) -> Self
+        ensures { result ≡ packed N zero (take self.now.count self.now.items) }
+    {
+        let listed = self.listed();
+        let count = listed.len();
+        let mut kept = [zero; N];
+        kept[..count].copy_from_slice(listed);
+        Listed { count, items: kept }
+    }
+}
+
+impl<T: Copy, const N: usize> Listed<T, N> {
+    // The first `at` items, the given one, and those of place `from` on; zeros after them.
+    pub fn spliced(&self, at: usize, from: usize, item: T, zero: T) -> Self
+        requires { Splices N at from (length (take self.now.count self.now.items)) }
+        ensures { result ≡ packed N zero (spliced at from item (take self.now.count self.now.items)) }
+    {
+        let listed = self.listed();
+        let before = &listed[..at];
+        let after = &listed[from..];
+        let count = at + 1 + after.len();
+        let mut items = [zero; N];
+        put_parts(&mut items, before, item, after);
+        Listed { count, items }
+    }
+
+    // The items that stay, moved together; zeros after them.
+    pub fn retained<F: Fn(&T) -> bool>(&self, stays: F, zero: T) -> Self
+        requires { F.IsAlwaysCallable stays }
+        ensures { (p : T → Bool) → ((x : _) (b : Bool) → F.post stays x b → b ≡ p x.now) → result ≡ packed N zero (filter p (take self.now.count self.now.items)) }
+    {
+        let mut items = [zero; N];
+        let mut count = 0;
+        for item in self.listed() {
+            if stays(item) {
+                items[count] = *item;
+                count += 1;
+            }
+        }
+        Listed { count, items }
+    }
+}
+
+// Some items, one more, and some after it, over the front of what is lent.
+fn put_parts<T: Copy>(out: &mut [T], before: &[T], item: T, after: &[T])
+    requires { length before.now + 1 + length after.now ≤ length out.old }
+    ensures { out.new ≡ before.now ++ (item ∷ (after.now ++ drop (length before.now + (1 + length after.now)) out.old)) }
+{
+    let (front, rest) = out.split_at_mut(before.len());
+    let (here, rest) = rest.split_at_mut(1);
+    let (back, _) = rest.split_at_mut(after.len());
+    front.copy_from_slice(before);
+    here.copy_from_slice(&[item]);
+    back.copy_from_slice(after);
+}
+
+// Where the first item stands that does not come before what is asked for, if it is that; else the place where that would go in.
+pub fn place_by<T, F: Fn(&T) -> Ordering>(items: &[T], compare: F) -> Result<usize, usize>
+    requires { F.IsAlwaysCallable compare }
+    ensures { (cmp : T → Ordering) → ((x : _) (o : Ordering) → F.post compare x o → o ≡ cmp x.now) → result ≡ place (λ x. is_lt (cmp x)) (λ x. is_eq (cmp x)) items.now }
+{
+    for (i, item) in items.iter().enumerate() {
+        match compare(item) {
+            Ordering::Less => {}
+            Ordering::Equal => return Ok(i),
+            Ordering::Greater => return Err(i),
+        }
+    }
+    Err(items.len())
+}
+
+// What stands from a place on; nothing where there is no such place.
+fn from_place<T>(items: &[T], place: usize) -> &[T]
+    ensures { result.now ≡ drop place items.now }
+{
+    if place < items.len() {
+        &items[place..]
+    } else {
+        &items[items.len()..]
+    }
+}
+
+// The number of places below a count, of those that there are.
+pub fn listed_count(count: usize, places: usize) -> usize
+    ensures { result ≡ listed_count count places }
+{
+    count.min(places)
+}

@@ -1,5 +1,0 @@
--- Safe and ending.
-use Rattle.cachebench.proofs.times.bounded.Given as goal
-
-abbrev pub decreases-loop-left : goal.decreases-loop-left
-decreases-loop-left l = l.left

@@ -1,5 +1,0 @@
--- Safe and ending.
-use Rattle.cachereplay.proofs.times.bounded.Given as goal
-
-abbrev pub decreases-loop-left : goal.decreases-loop-left
-decreases-loop-left l = l.left

@@ -1,9 +1,0 @@
--- Safe and ending.
-use Rattle.std.proofs.Common.{◌-◌, ◌≤◌}
-use Rattle.replay_calls.proofs.dump.put_last_ids.Given as goal
-
-abbrev pub invariant-loop-i : goal.invariant-loop-i
-invariant-loop-i l = l.i ≤ 32
-
-abbrev pub decreases-loop-i : goal.decreases-loop-i
-decreases-loop-i l = 32 - l.i

@@ -1,6 +1,0 @@
--- Safe and ending.
-use Rattle.std.proofs.Common.{◌-◌, length}
-use Rattle.replay_text.proofs.messages.put_line_of.Given as goal
-
-abbrev pub decreases-loop-i : goal.decreases-loop-i
-decreases-loop-i l = length l.lines - l.i
