@@ -1,10 +1,10 @@
 // Lists in a fixed number of places: no memory is asked for, and a count says how many places are listed.
 ghost use Rattle.std.specs.declared.cmp.Ordering.{Ordering};
 ghost use Rattle.std.specs.Ordering.{is_eq, is_lt};
-ghost use Rattle.std.specs.Prelude.{◌≡◌, ◌+◌, ◌++◌, ◌≤◌, [], ◌∷◌, Bool, drop, filter, length, take};
+ghost use Rattle.std.specs.Prelude.{◌≡◌, ◌+◌, ◌++◌, ◌≤◌, [], ◌∷◌, Bool, drop, filter, length, nat_lt, option_map, slice_get, take};
 ghost use Rattle.block_records.specs.arrays.Arrays.{Splices, spliced};
-ghost use Rattle.block_records.specs.arrays.Place.{listed_count, place};
-ghost use Rattle.block_records.specs.layout.Listed.{packed};
+ghost use Rattle.block_records.specs.arrays.Place.{IsWithin, place};
+ghost use Rattle.block_records.specs.layout.Listed.{Compares, packed, put_listed};
 
 use std::cmp::Ordering;
 
@@ -29,9 +29,32 @@ impl<T, const N: usize> Listed<T, N> {
 
     // What stands in the places after them.
     pub fn unlisted(&self) -> &[T]
-        ensures { result.now ≡ drop self.now.count self.now.items }
+        ensures rest { result.now ≡ drop self.now.count self.now.items }
+        ensures places { length self.now.items ≡ N }
     {
         from_place(&self.items, self.count)
+    }
+}
+
+impl<T, const N: usize> Listed<T, N> {
+    // Whether fewer items are listed than there are places.
+    pub fn has_place(&self) -> bool
+        ensures { result ≡ nat_lt (length (take self.now.count self.now.items)) N }
+    {
+        self.listed().len() < N
+    }
+
+    // The item that is listed at a place.
+    pub fn get(&self, place: usize) -> Option<&T>
+        ensures item { option_map (λ x. x.now) result ≡ slice_get (take self.now.count self.now.items) place }
+        ensures places { length self.now.items ≡ N }
+    {
+        let items: &[T] = &self.items;
+        if place < self.count {
+            items.get(place)
+        } else {
+            None
+        }
     }
 }
 
@@ -90,6 +113,25 @@ impl<T: Copy, const N: usize> Listed<T, N> {
     }
 }
 
+impl<T: Copy, const N: usize> Listed<T, N> {
+    // The item in its place, by what comparing it tells of each that is listed: the one that is equal to it is replaced. Where every place is taken and none is equal, nothing changes.
+    pub fn put_by<F: Fn(&T) -> Ordering>(&self, compare: F, item: T, zero: T) -> Self
+        requires { F.IsAlwaysCallable compare }
+        ensures { (cmp : T → Ordering) → ((x : _) (o : Ordering) → F.post compare x o → o ≡ cmp x.now) → (lt : T → T → Bool) → Compares lt item cmp → result ≡ put_listed N zero lt item self.now }
+    {
+        match place_by(self.listed(), compare) {
+            Ok(at) => self.spliced(at, at + 1, item, zero),
+            Err(at) => {
+                if self.count < N {
+                    self.spliced(at, at, item, zero)
+                } else {
+                    *self
+                }
+            }
+        }
+    }
+}
+
 // Some items, one more, and some after it, over the front of what is lent.
 fn put_parts<T: Copy>(out: &mut [T], before: &[T], item: T, after: &[T])
     requires { length before.now + 1 + length after.now ≤ length out.old }
@@ -106,7 +148,8 @@ fn put_parts<T: Copy>(out: &mut [T], before: &[T], item: T, after: &[T])
 // Where the first item stands that does not come before what is asked for, if it is that; else the place where that would go in.
 pub fn place_by<T, F: Fn(&T) -> Ordering>(items: &[T], compare: F) -> Result<usize, usize>
     requires { F.IsAlwaysCallable compare }
-    ensures { (cmp : T → Ordering) → ((x : _) (o : Ordering) → F.post compare x o → o ≡ cmp x.now) → result ≡ place (λ x. is_lt (cmp x)) (λ x. is_eq (cmp x)) items.now }
+    ensures place { (cmp : T → Ordering) → ((x : _) (o : Ordering) → F.post compare x o → o ≡ cmp x.now) → result ≡ place (λ x. is_lt (cmp x)) (λ x. is_eq (cmp x)) items.now }
+    ensures within { IsWithin (length items.now) result }
 {
     for (i, item) in items.iter().enumerate() {
         match compare(item) {
@@ -127,11 +170,4 @@ fn from_place<T>(items: &[T], place: usize) -> &[T]
     } else {
         &items[items.len()..]
     }
-}
-
-// The number of places below a count, of those that there are.
-pub fn listed_count(count: usize, places: usize) -> usize
-    ensures { result ≡ listed_count count places }
-{
-    count.min(places)
 }

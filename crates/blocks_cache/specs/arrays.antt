@@ -7,6 +7,5 @@ pub mod Lookup
 pub mod Extraction
 pub mod Peek
 pub mod Collection
-pub mod LentSlices
 pub mod Subgraphs
 pub mod TailIds

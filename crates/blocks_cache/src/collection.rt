@@ -2,25 +2,19 @@
 ghost use Rattle.std.specs.List.{fold};
 ghost use Rattle.std.specs.Prelude.{◌≡◌};
 ghost use Rattle.block_records.specs.rules.BlockId.{listed_keys};
-ghost use Rattle.blocks_cache.specs.arrays.Collection.{change_outcome, changed_first, collect_shard_group, drop_collected, drop_removed, held_bound_one, held_collect, held_remove_one, keys_answer};
+ghost use Rattle.blocks_cache.specs.arrays.Collection.{change_outcome, collect_shards, drop_collected, drop_removed, held_bound_one, held_collect, held_remove_one, keys_answer};
 ghost use Rattle.blocks_cache.specs.layout.Cache.{call_on};
 ghost use Rattle.cache_rules.specs.Calls.{collect, remove_next_collated, set_boundary, unlent};
 
-use crate::cache::{Cache, ShardGroup};
+use crate::cache::{Cache, Shards};
 use crate::master_data::{MasterData, drop_ids_below, drop_ids_from};
-use crate::shards::{ident_place, shard_idents};
+use crate::shards::shard_place;
 use crate::soundness::sound_cache;
-use block_records::block_id::{is_masterchain, key_shard};
-use block_records::limits::{KEYS_LIMIT, SHARDS_LIMIT};
+use block_records::block_id::BlockIdShort;
 use block_records::questions::{Refusal, check_keys};
 use block_records::store_records::Keys;
-use blocks_group::group::{set_group_boundary, set_master_boundary};
-use blocks_group::queries::{
-    collect_group, collect_masters, highest_below_boundary, lowest_collated_above,
-    remove_collated_above, remove_collated_masters_above,
-};
 
-#[derive(Clone, Copy, PartialEq, Eq)]
+#[derive(Clone, Copy, Debug, PartialEq, Eq)]
 pub struct CacheChange {
     pub answer: Result<(), Refusal>,
     pub cache: Cache,
@@ -40,51 +34,41 @@ fn keys_answer(cache: Cache, given: Keys) -> Result<(), Refusal>
 
 // ===== set boundary =====
 
-// Each key becomes the boundary of its shard's group, if there is one. The shards are gathered once: each group stays in its place.
-fn bound_all(cache: Cache, given: Keys) -> Cache
-    ensures { result ≡ fold held_bound_one cache (listed_keys given) }
+// The key becomes the boundary of its shard's group, if there is one.
+fn held_bound_one(cache: &mut Cache, key: BlockIdShort)
+    ensures { cache.new ≡ held_bound_one cache.old key }
 {
-    let shards = cache.shards;
-    let idents = shard_idents(shards);
-    let keys = given.items;
-    let count = given.count;
-    let mut out = cache;
-    let mut i: usize = 0;
-    while i < KEYS_LIMIT {
-        if count <= i {
-            return out;
-        }
-        let short = keys[i];
-        i += 1;
-        let shard = key_shard(short);
-        if is_masterchain(shard) {
-            let masters = set_master_boundary(out.masters, short);
-            out.masters = masters;
-            continue;
-        }
-        let place = ident_place(idents, out.shard_count, shard);
-        let Ok(at) = place else {
-            continue;
-        };
-        let held = out.shards[at];
-        let group = set_group_boundary(held.group, short);
-        let shard = held.shard;
-        out.shards[at] = ShardGroup { shard, group };
+    if key.shard.is_masterchain() {
+        cache.masters.boundary = Some(key);
+        return;
     }
-    out
+    if let Ok(at) = shard_place(cache.shards.listed(), key.shard) {
+        cache.shards.items[at].group.boundary = Some(key);
+    }
+}
+
+fn bound_all(cache: &mut Cache, given: Keys)
+    ensures { cache.new ≡ fold held_bound_one cache.old (listed_keys given) }
+{
+    for key in given.listed() {
+        held_bound_one(cache, *key);
+    }
 }
 
 pub fn set_gc_to_boundary(cache: Cache, to_blocks_keys: Keys) -> CacheChange
     ensures { change_outcome result ≡ call_on cache (unlent (set_boundary to_blocks_keys)) }
 {
-    let answer = keys_answer(cache, to_blocks_keys);
-    if let Err(_) = answer {
-        return CacheChange { answer, cache };
+    if let Err(refusal) = keys_answer(cache, to_blocks_keys) {
+        return CacheChange {
+            answer: Err(refusal),
+            cache,
+        };
     }
-    let bound = bound_all(cache, to_blocks_keys);
+    let mut left = cache;
+    bound_all(&mut left, to_blocks_keys);
     CacheChange {
         answer: Ok(()),
-        cache: bound,
+        cache: left,
     }
 }
 
@@ -100,39 +84,28 @@ fn drop_collected(data: MasterData, highest: Option<u32>) -> MasterData
     }
 }
 
-// Each listed shard group without its entries below its boundary.
-fn collect_shards(shards: [ShardGroup; SHARDS_LIMIT], count: usize) -> [ShardGroup; SHARDS_LIMIT]
-    ensures { result ≡ changed_first count collect_shard_group shards }
+// Each listed shard group without its blocks below its boundary.
+fn collect_shards(shards: Shards) -> Shards
+    ensures { result ≡ collect_shards shards }
 {
-    let mut out = shards;
-    let mut i: usize = 0;
-    while i < SHARDS_LIMIT {
-        if count <= i {
-            return out;
-        }
-        let known = out[i];
-        let shard = known.shard;
-        let group = collect_group(known.group);
-        out[i] = ShardGroup { shard, group };
-        i += 1;
+    let mut left = shards;
+    for at in 0..shards.listed().len() {
+        left.items[at].group = shards.items[at].group.collected();
     }
-    out
+    left
 }
 
 // Every group is collected by its boundary, and ids are dropped by the masters collected; the range stays.
 fn held_collect(cache: Cache) -> Cache
     ensures { result ≡ held_collect cache }
 {
-    let highest = highest_below_boundary(cache.masters.group);
-    let kept = collect_masters(cache.masters);
-    let data = drop_collected(cache.data, highest);
-    let shards = cache.shards;
-    let collected = collect_shards(shards, cache.shard_count);
-    let mut out = cache;
-    out.masters = kept;
-    out.data = data;
-    out.shards = collected;
-    out
+    let highest = cache.masters.highest_below_boundary();
+    Cache {
+        masters: cache.masters.collected(),
+        data: drop_collected(cache.data, highest),
+        shards: collect_shards(cache.shards),
+        ..cache
+    }
 }
 
 pub fn gc_prev_blocks(cache: Cache) -> CacheChange
@@ -144,10 +117,9 @@ pub fn gc_prev_blocks(cache: Cache) -> CacheChange
             cache,
         };
     }
-    let collected = held_collect(cache);
     CacheChange {
         answer: Ok(()),
-        cache: collected,
+        cache: held_collect(cache),
     }
 }
 
@@ -163,52 +135,42 @@ fn drop_removed(data: MasterData, lowest: Option<u32>) -> MasterData
     }
 }
 
-// Each key's group, if there is one, loses the entries above the key's seqno that are not Received; ids are dropped by the masters removed; the range
+// The key's group, if there is one, loses the blocks above the key's seqno that are not Received; ids are dropped by the masters removed; the range
 // stays.
-fn remove_all(cache: Cache, given: Keys) -> Cache
-    ensures { result ≡ fold held_remove_one cache (listed_keys given) }
+fn held_remove_one(cache: &mut Cache, key: BlockIdShort)
+    ensures { cache.new ≡ held_remove_one cache.old key }
 {
-    let shards = cache.shards;
-    let idents = shard_idents(shards);
-    let keys = given.items;
-    let count = given.count;
-    let mut out = cache;
-    let mut i: usize = 0;
-    while i < KEYS_LIMIT {
-        if count <= i {
-            return out;
-        }
-        let short = keys[i];
-        i += 1;
-        let shard = key_shard(short);
-        if is_masterchain(shard) {
-            let lowest = lowest_collated_above(out.masters.group, short.seqno);
-            let kept = remove_collated_masters_above(out.masters, short.seqno);
-            let data = drop_removed(out.data, lowest);
-            out.masters = kept;
-            out.data = data;
-            continue;
-        }
-        let place = ident_place(idents, out.shard_count, shard);
-        let Ok(at) = place else {
-            continue;
-        };
-        let held = out.shards[at];
-        let group = remove_collated_above(held.group, short.seqno);
-        let shard = held.shard;
-        out.shards[at] = ShardGroup { shard, group };
+    if key.shard.is_masterchain() {
+        let lowest = cache.masters.lowest_collated_above(key.seqno);
+        cache.masters = cache.masters.without_collated_above(key.seqno);
+        cache.data = drop_removed(cache.data, lowest);
+        return;
     }
-    out
+    if let Ok(at) = shard_place(cache.shards.listed(), key.shard) {
+        let group = cache.shards.items[at].group;
+        cache.shards.items[at].group = group.without_collated_above(key.seqno);
+    }
+}
+
+fn remove_all(cache: &mut Cache, given: Keys)
+    ensures { cache.new ≡ fold held_remove_one cache.old (listed_keys given) }
+{
+    for key in given.listed() {
+        held_remove_one(cache, *key);
+    }
 }
 
 pub fn remove_next_collated_blocks_from_cache(cache: Cache, after_blocks_keys: Keys) -> CacheChange
     ensures { change_outcome result ≡ call_on cache (unlent (remove_next_collated after_blocks_keys)) }
 {
-    let answer = keys_answer(cache, after_blocks_keys);
-    if let Err(_) = answer {
-        return CacheChange { answer, cache };
+    if let Err(refusal) = keys_answer(cache, after_blocks_keys) {
+        return CacheChange {
+            answer: Err(refusal),
+            cache,
+        };
     }
-    let left = remove_all(cache, after_blocks_keys);
+    let mut left = cache;
+    remove_all(&mut left, after_blocks_keys);
     CacheChange {
         answer: Ok(()),
         cache: left,

@@ -1,246 +1,158 @@
 // RULES.md, Extraction, Pop and Sync extraction: with the blocks beside the answer and the number of the lent slice's places given.
-ghost use Rattle.std.specs.Prelude.{◌≡◌, ◌<◌, ◌≤◌, true, take};
+ghost use Rattle.std.specs.Prelude.{◌≡◌, ◌≤◌, true};
 ghost use Rattle.block_records.specs.layout.Entry.{pack_tops};
-ghost use Rattle.block_records.specs.layout.Zeros.{zero_entry};
-ghost use Rattle.block_records.specs.rules.Lists.{padded};
-ghost use Rattle.blocks_cache.specs.arrays.Extraction.{backwards, compact_group, compact_shard, compact_shards, held_starting_ids, held_starting_items, pack_extraction, pack_waiting, refresh_seqnos, view_master, without_seqno};
-ghost use Rattle.blocks_cache.specs.arrays.Subgraphs.{ExtractsWithBlocks, PacksEffect, hand_out, move_applied_start, no_extract, request_seqno};
+ghost use Rattle.block_records.specs.layout.Listed.{packed};
+ghost use Rattle.block_records.specs.layout.Zeros.{zero_id};
+ghost use Rattle.block_records.specs.rules.Limits.{tops_limit, waiting_places};
+ghost use Rattle.block_records.specs.rules.Questions.{first_no};
+ghost use Rattle.blocks_cache.specs.arrays.Extraction.{compact_group, compact_shard, compact_shards, held_starting_ids, held_starting_items, pack_extraction, view_master};
+ghost use Rattle.blocks_cache.specs.arrays.Subgraphs.{ExtractsWithBlocks, PacksEffect, extract_questions, hand_out, move_applied_start, no_extract};
 ghost use Rattle.blocks_cache.specs.layout.Cache.{sound_cache, view};
 ghost use Rattle.blocks_group.specs.rules.Group.{at_seqno};
+ghost use Rattle.cache_rules.specs.Calls.{pop, sync};
 ghost use Rattle.cache_rules.specs.Effects.{pop_entry, sync_entry};
 ghost use Rattle.cache_rules.specs.Extraction.{extraction_of};
 ghost use Rattle.cache_rules.specs.Model.{first_applied};
 
-use crate::cache::{Cache, ShardGroup};
-use crate::lookup::{EntrySeqno, GroupSeqnos, block_place, shard_seqnos};
+use crate::cache::{Cache, ShardGroup, Shards};
+use crate::lookup::{GroupSeqnos, block_place, shard_idents, shard_seqnos};
 use crate::master_data::{MasterData, drop_ids_below, moved_start};
-use crate::shards::shard_idents;
 use crate::soundness::sound_cache;
 use block_records::block_id::{BlockId, zero_id};
 use block_records::entry::{BlockCacheEntry, MasterBlock, held_applied, zero_entry, zero_master};
-use block_records::limits::{
-    ENTRIES_LIMIT, SHARDS_LIMIT, SLICE_PLACES, TOPS_LIMIT, WAITING_PLACES,
-};
-use block_records::listed::listed_count;
+use block_records::limits::{SHARDS_LIMIT, SLICE_PLACES, WAITING_PLACES};
+use block_records::listed::Listed;
 use block_records::questions::{Refusal, seqno_fits};
 use block_records::range::AppliedRange;
 use block_records::top_block::{TopBlocks, zero_top};
-use blocks_group::group::{Group, MasterGroup, master_at, remove_master};
+use blocks_group::group::{Group, MasterGroup, ShardBlocks};
 use blocks_group::mark::refreshed_mark;
-use blocks_group::queries::{any_applied_above, first_applied_master};
-use blocks_group::refresh::refresh_masters;
 
-// What an extraction leaves of the shard groups, the joined blocks (the newest first, zeros after them), their number and that of the ids taken.
-#[derive(Clone, Copy)]
+// What an extraction leaves of the shard groups, the blocks that joined, the newest first, and the number of the ids taken.
+#[derive(Clone, Copy, Debug, PartialEq, Eq)]
 pub(crate) struct Extraction {
-    pub shards: [ShardGroup; SHARDS_LIMIT],
-    pub blocks: [BlockCacheEntry; SLICE_PLACES],
-    pub joined: usize,
+    pub shards: Shards,
+    pub blocks: Listed<BlockCacheEntry, SLICE_PLACES>,
     pub taken: usize,
 }
 
 // The ids that wait, with those that were taken before them.
-#[derive(Clone, Copy)]
-pub(crate) struct WaitingList {
-    pub ids: [BlockId; WAITING_PLACES],
-    pub count: usize,
-}
+type WaitingList = Listed<BlockId, WAITING_PLACES>;
 
 // ===== the starting ids =====
 
 // The listed top items from which extraction starts.
-pub(crate) fn held_starting_items(zerostate: u32, tops: TopBlocks) -> TopBlocks
-    ensures { result ≡ pack_tops (held_starting_items zerostate tops) }
+pub(crate) fn held_starting_items(zerostate: u32, tops: &TopBlocks) -> TopBlocks
+    ensures { result ≡ pack_tops (held_starting_items zerostate tops.now) }
 {
-    let zero = zero_top();
-    let mut items = [zero; TOPS_LIMIT];
-    let listed = listed_count(tops.count, TOPS_LIMIT);
-    let mut count: usize = 0;
-    let mut i: usize = 0;
-    while i < listed {
-        let item = tops.items[i];
-        if item.updated & (zerostate < item.ref_by_mc_seqno) {
-            items[count] = item;
-            count += 1;
-        }
-        i += 1;
-    }
-    TopBlocks { items, count }
+    tops.retained(
+        |item| item.updated && zerostate < item.ref_by_mc_seqno,
+        zero_top(),
+    )
 }
 
 // Their ids wait first.
-fn held_starting_ids(zerostate: u32, tops: TopBlocks) -> WaitingList
-    ensures { result ≡ pack_waiting (held_starting_ids zerostate tops) }
+fn held_starting_ids(zerostate: u32, tops: &TopBlocks) -> WaitingList
+    ensures ids { result ≡ packed waiting_places zero_id (held_starting_ids zerostate tops.now) }
+    ensures few { result.count ≤ tops_limit }
 {
-    let zero = zero_id();
-    let mut ids = [zero; WAITING_PLACES];
+    let mut items = [zero_id(); WAITING_PLACES];
     let starting = held_starting_items(zerostate, tops);
-    let count = starting.count;
-    let mut i: usize = 0;
-    while i < count {
-        let item = starting.items[i];
-        let id = item.block_id;
-        ids[i] = id;
-        i += 1;
+    for (i, item) in starting.listed().iter().enumerate() {
+        items[i] = item.block_id;
     }
-    WaitingList { ids, count }
+    Listed {
+        count: starting.count,
+        items,
+    }
 }
 
-// ===== a block leaves its group =====
-
-// The entry of a place is no longer cached.
-fn without_seqno(group: GroupSeqnos, at: usize, seqno: u32) -> GroupSeqnos
-    requires { at < 16 }
-    ensures { result ≡ without_seqno at seqno group }
-{
-    let mut out = group;
-    out.entries[at] = EntrySeqno {
-        seqno,
-        cached: false,
-    };
-    out
-}
-
-// The mark's rule.
-fn refresh_seqnos(group: GroupSeqnos, seqno: u32) -> GroupSeqnos
-    ensures { result ≡ refresh_seqnos seqno group }
-{
-    let entries = group.entries;
-    let old = group.mark;
-    let mark = refreshed_mark(seqno, old);
-    GroupSeqnos { entries, mark }
-}
-
-// ===== what is left, and what joined =====
+// ===== what is left =====
 
 // The entries that are still cached, moved together.
-fn compact_group(group: Group, seqnos: GroupSeqnos) -> Group
-    ensures { result ≡ compact_group group seqnos }
+fn compact_group(group: &ShardBlocks, seqnos: &GroupSeqnos) -> ShardBlocks
+    ensures { result ≡ compact_group group.now seqnos.now }
 {
-    let zero = zero_entry();
-    let mut entries = [zero; ENTRIES_LIMIT];
-    let mut count: usize = 0;
-    let mut i: usize = 0;
-    while i < ENTRIES_LIMIT {
-        let x = seqnos.entries[i];
-        if x.cached {
-            entries[count] = group.entries[i];
-            count += 1;
+    let blocks: &[BlockCacheEntry] = &group.entries.items;
+    let mut entries = Listed::empty(zero_entry());
+    for (i, seqno) in seqnos.entries.iter().enumerate() {
+        if seqno.is_some() {
+            entries.items[entries.count] = blocks[i];
+            entries.count += 1;
         }
-        i += 1;
     }
-    let mark = seqnos.mark;
-    let boundary = group.boundary;
     Group {
+        mark: seqnos.mark,
+        boundary: group.boundary,
         entries,
-        count,
-        mark,
-        boundary,
     }
 }
 
-fn compact_shard(held: ShardGroup, seqnos: GroupSeqnos) -> ShardGroup
-    ensures { result ≡ compact_shard held seqnos }
+fn compact_shard(held: &ShardGroup, seqnos: &GroupSeqnos) -> ShardGroup
+    ensures { result ≡ compact_shard held.now seqnos.now }
 {
-    let group = compact_group(held.group, seqnos);
-    let shard = held.shard;
-    ShardGroup { shard, group }
-}
-
-fn compact_shards(
-    shards: [ShardGroup; SHARDS_LIMIT],
-    seqnos: [GroupSeqnos; SHARDS_LIMIT],
-) -> [ShardGroup; SHARDS_LIMIT]
-    ensures { result ≡ compact_shards shards seqnos }
-{
-    let mut out = shards;
-    let mut i: usize = 0;
-    while i < SHARDS_LIMIT {
-        out[i] = compact_shard(out[i], seqnos[i]);
-        i += 1;
+    ShardGroup {
+        shard: held.shard,
+        group: compact_group(&held.group, seqnos),
     }
-    out
 }
 
-// The last of the first `count` blocks first, zeros after them.
-fn last_first(
-    blocks: [BlockCacheEntry; SLICE_PLACES],
-    count: usize,
-) -> [BlockCacheEntry; SLICE_PLACES]
-    requires { count ≤ 128 }
-    ensures { result ≡ padded 128 zero_entry (backwards (take count blocks)) }
+fn compact_shards(shards: &Shards, seqnos: &[GroupSeqnos; SHARDS_LIMIT]) -> Shards
+    ensures count { result.count ≡ shards.now.count }
+    ensures items { result.items ≡ compact_shards shards.now.items seqnos.now }
 {
-    let zero = zero_entry();
-    let mut out = [zero; SLICE_PLACES];
-    let mut j: usize = 0;
-    while j < count {
-        out[j] = blocks[count - 1 - j];
-        j += 1;
+    Listed {
+        count: shards.count,
+        items: std::array::from_fn(|i| compact_shard(&shards.items[i], &seqnos[i])),
     }
-    out
 }
 
-// The walk: each id that waits is looked up by its key. A block that names M joins, adds its previous ids to the end and refreshes its group's mark;
-// any other block found is lost.
-fn extraction_of(cache: Cache, master: MasterBlock) -> Extraction
-    requires { sound_cache cache ≡ true }
-    ensures { result ≡ pack_extraction (extraction_of (view_master master) (view cache)) }
+// ===== the walk =====
+
+// Each id that waits is looked up by its key. A block that names M joins, adds its previous ids to the end and refreshes its group's mark; any other block found is lost.
+fn extraction_of(cache: &Cache, master: &MasterBlock) -> Extraction
+    requires { sound_cache cache.now ≡ true }
+    ensures { result ≡ pack_extraction (extraction_of (view_master master.now) (view cache.now)) }
 {
-    let starting = held_starting_ids(cache.zerostate_mc_seqno, master.tops);
-    let mut ids = starting.ids;
-    let mut count = starting.count;
-    let shards = cache.shards;
-    let idents = shard_idents(shards);
-    let mut seqnos = shard_seqnos(shards);
-    let zero = zero_entry();
-    let mut blocks = [zero; SLICE_PLACES];
-    let mut joined: usize = 0;
-    let mut head: usize = 0;
-    while head < count {
-        let id = ids[head];
+    let idents = shard_idents(&cache.shards);
+    let mut seqnos = shard_seqnos(&cache.shards);
+    let mut waiting = held_starting_ids(cache.zerostate_mc_seqno, &master.tops);
+    let mut joined = Listed::empty(zero_entry());
+    let mut head = 0;
+    // The list grows while it is read: no iterator goes over it.
+    while head < waiting.count {
+        let id = waiting.items[head];
         head += 1;
-        let Some((at, place)) = block_place(idents, seqnos, id) else {
+        let Some((at, place)) = block_place(&idents, &seqnos, id) else {
             continue;
         };
-        let held = cache.shards[at];
-        let group = held.group;
-        let block = group.entries[place];
-        let old = seqnos[at];
-        let removed = without_seqno(old, place, id.seqno);
+        let block = &cache.shards.items[at].group.entries.items[place];
+        let group = &mut seqnos[at];
+        group.entries[place] = None;
         if block.ref_by_mc_seqno != master.entry.block_id.seqno {
-            seqnos[at] = removed;
             continue;
         }
-        seqnos[at] = refresh_seqnos(removed, id.seqno);
-        blocks[joined] = block;
-        joined += 1;
-        let previous = block.prev_ids;
-        let first = previous.items[0];
-        ids[count] = first;
-        let second = previous.items[1];
-        ids[count + 1] = second;
-        count += previous.count;
+        group.mark = refreshed_mark(id.seqno, group.mark);
+        joined.items[joined.count] = *block;
+        joined.count += 1;
+        let previous = block.prev_ids.listed();
+        let start = waiting.count;
+        let end = start + previous.len();
+        waiting.items[start..end].copy_from_slice(previous);
+        waiting.count = end;
     }
-    let left = compact_shards(shards, seqnos);
-    let subgraph = last_first(blocks, joined);
+    let count = joined.count;
+    joined.items[0..count].reverse();
     Extraction {
-        shards: left,
-        blocks: subgraph,
-        joined,
+        shards: compact_shards(&cache.shards, &seqnos),
+        blocks: joined,
         taken: head,
     }
 }
 
 // ===== pop and sync extraction =====
 
-// Pop from a seqno on; sync extraction at a seqno.
-#[derive(Clone, Copy)]
-pub enum ExtractRequest {
-    Pop(u32),
-    Sync(u32),
-}
-
-#[derive(Clone, Copy, PartialEq, Eq)]
+#[derive(Clone, Copy, Debug, PartialEq, Eq)]
 pub enum ExtractAnswer {
     Popped { last: bool },
     Extracted,
@@ -248,7 +160,7 @@ pub enum ExtractAnswer {
 }
 
 // M with its top items, the number of blocks beside it and of ids taken; zeros where the answer hands out nothing.
-#[derive(Clone, Copy, PartialEq, Eq)]
+#[derive(Clone, Copy, Debug, PartialEq, Eq)]
 pub struct SubgraphExtract {
     pub answer: Result<ExtractAnswer, Refusal>,
     pub master: MasterBlock,
@@ -258,8 +170,8 @@ pub struct SubgraphExtract {
 }
 
 // The same with the joined blocks, and zeros after them.
-#[derive(Clone, Copy)]
-pub struct ExtractWithBlocks {
+#[derive(Clone, Copy, Debug, PartialEq, Eq)]
+pub(crate) struct ExtractWithBlocks {
     pub extract: SubgraphExtract,
     pub blocks: [BlockCacheEntry; SLICE_PLACES],
 }
@@ -268,75 +180,74 @@ pub struct ExtractWithBlocks {
 fn no_extract(answer: Result<ExtractAnswer, Refusal>, cache: Cache) -> ExtractWithBlocks
     ensures { result ≡ no_extract answer cache }
 {
-    let master = zero_master();
-    let extract = SubgraphExtract {
-        answer,
-        master,
-        joined: 0,
-        taken: 0,
-        cache,
-    };
-    let zero = zero_entry();
     ExtractWithBlocks {
-        extract,
-        blocks: [zero; SLICE_PLACES],
+        extract: SubgraphExtract {
+            answer,
+            master: zero_master(),
+            joined: 0,
+            taken: 0,
+            cache,
+        },
+        blocks: [zero_entry(); SLICE_PLACES],
     }
 }
 
 // M and its subgraph are handed out, with the masters and the range as given; the ids from M's seqno on stay.
 fn hand_out(
-    cache: Cache,
-    answer: Result<ExtractAnswer, Refusal>,
+    cache: &Cache,
+    answer: ExtractAnswer,
     master: MasterBlock,
     masters: MasterGroup,
     range: Option<AppliedRange>,
     extraction: Extraction,
 ) -> ExtractWithBlocks
-    ensures { result ≡ hand_out cache answer master masters range extraction }
+    ensures { result ≡ hand_out cache.now answer master masters range extraction }
 {
     let kept = drop_ids_below(cache.data, master.entry.block_id.seqno);
-    let data = MasterData { range, ..kept };
-    let shards = extraction.shards;
-    let mut left = cache;
-    left.masters = masters;
-    left.data = data;
-    left.shards = shards;
-    let extract = SubgraphExtract {
-        answer,
-        master,
-        joined: extraction.joined,
-        taken: extraction.taken,
-        cache: left,
-    };
-    let blocks = extraction.blocks;
-    ExtractWithBlocks { extract, blocks }
+    let blocks = extraction.blocks.items;
+    ExtractWithBlocks {
+        extract: SubgraphExtract {
+            answer: Ok(answer),
+            master,
+            joined: extraction.blocks.count,
+            taken: extraction.taken,
+            cache: Cache {
+                masters,
+                data: MasterData { range, ..kept },
+                shards: extraction.shards,
+                ..*cache
+            },
+        },
+        blocks,
+    }
 }
 
 // Pop: the first applied master from a seqno on is taken out, and the range is moved on past it.
-fn pop_with_blocks(cache: Cache, from: u32) -> ExtractWithBlocks
-    requires { sound_cache cache ≡ true }
-    ensures { PacksEffect (pop_entry (first_applied from (view cache)) (view cache)) result }
+fn popped(cache: &Cache, from: u32) -> ExtractWithBlocks
+    requires { sound_cache cache.now ≡ true }
+    ensures { PacksEffect (pop_entry (first_applied from (view cache.now)) (view cache.now)) result }
 {
-    let first = first_applied_master(cache.masters, from);
-    let found = first.found;
-    let Ok(at) = found else {
-        let answer = Err(Refusal::NothingApplied);
-        return no_extract(answer, cache);
+    let Some(master) = cache.masters.first_applied(from) else {
+        return no_extract(Err(Refusal::NothingApplied), *cache);
     };
-    let seqno = first.block.entry.block_id.seqno;
-    let above = any_applied_above(cache.masters.group, seqno);
-    let answer = Ok(ExtractAnswer::Popped { last: !above });
-    let extraction = extraction_of(cache, first.block);
-    let left = remove_master(cache.masters, seqno);
-    let data = cache.data;
-    let old = data.range;
-    let range = moved_start(seqno, old);
-    hand_out(cache, answer, first.block, left, range, extraction)
+    let seqno = master.entry.block_id.seqno;
+    let above = cache.masters.any_applied_above(seqno);
+    let extraction = extraction_of(cache, &master);
+    let masters = cache.masters.removed(seqno);
+    let range = moved_start(seqno, cache.data.range);
+    hand_out(
+        cache,
+        ExtractAnswer::Popped { last: !above },
+        master,
+        masters,
+        range,
+        extraction,
+    )
 }
 
 // The range moved on past M, if M is applied.
-fn move_applied_start(range: Option<AppliedRange>, master: MasterBlock) -> Option<AppliedRange>
-    ensures { result ≡ move_applied_start range master }
+fn move_applied_start(range: Option<AppliedRange>, master: &MasterBlock) -> Option<AppliedRange>
+    ensures { result ≡ move_applied_start range master.now }
 {
     if held_applied(master.entry) {
         return moved_start(master.entry.block_id.seqno, range);
@@ -345,58 +256,58 @@ fn move_applied_start(range: Option<AppliedRange>, master: MasterBlock) -> Optio
 }
 
 // Sync extraction: the master at a seqno is taken out and refreshes the mark; if it is applied, the range is moved on past it.
-fn sync_with_blocks(cache: Cache, seqno: u32) -> ExtractWithBlocks
-    requires { sound_cache cache ≡ true }
-    ensures { PacksEffect (sync_entry (at_seqno seqno (view cache).masters.entries) (view cache)) result }
+fn synced(cache: &Cache, seqno: u32) -> ExtractWithBlocks
+    requires { sound_cache cache.now ≡ true }
+    ensures { PacksEffect (sync_entry (at_seqno seqno (view cache.now).masters.entries) (view cache.now)) result }
 {
-    let there = master_at(cache.masters, seqno);
-    let found = there.found;
-    let Ok(at) = found else {
-        let answer = Ok(ExtractAnswer::AlreadyExtracted);
-        return no_extract(answer, cache);
+    let Some(master) = cache.masters.at(seqno) else {
+        return no_extract(Ok(ExtractAnswer::AlreadyExtracted), *cache);
     };
-    let answer = Ok(ExtractAnswer::Extracted);
-    let extraction = extraction_of(cache, there.block);
-    let removed = remove_master(cache.masters, there.block.entry.block_id.seqno);
-    let left = refresh_masters(removed, there.block.entry.block_id.seqno);
-    let data = cache.data;
-    let old = data.range;
-    let range = move_applied_start(old, there.block);
-    hand_out(cache, answer, there.block, left, range, extraction)
+    let seqno = master.entry.block_id.seqno;
+    let extraction = extraction_of(cache, &master);
+    let masters = cache.masters.removed(seqno).refreshed(seqno);
+    let range = move_applied_start(cache.data.range, &master);
+    hand_out(
+        cache,
+        ExtractAnswer::Extracted,
+        master,
+        masters,
+        range,
+        extraction,
+    )
 }
 
-fn request_seqno(request: ExtractRequest) -> u32
-    ensures { result ≡ request_seqno request }
-{
-    match request {
-        ExtractRequest::Pop(from) => from,
-        ExtractRequest::Sync(seqno) => seqno,
-    }
-}
+// ===== after the questions that both ask: 1, 2 and 10 =====
 
-// Questions 1, 2 and 10, then the request.
-pub(crate) fn extract_with_blocks(
-    cache: Cache,
-    request: ExtractRequest,
-    places: usize,
-) -> ExtractWithBlocks
-    ensures { ExtractsWithBlocks cache request places result }
+fn extract_refusal(cache: &Cache, seqno: u32, places: usize) -> Option<Refusal>
+    ensures { result ≡ first_no (extract_questions cache.now seqno places) }
 {
-    if !sound_cache(cache) {
-        let answer = Err(Refusal::Unsound);
-        return no_extract(answer, cache);
+    if !sound_cache(*cache) {
+        return Some(Refusal::Unsound);
     }
-    let seqno = request_seqno(request);
     if !seqno_fits(seqno) {
-        let answer = Err(Refusal::SeqnoLimit);
-        return no_extract(answer, cache);
+        return Some(Refusal::SeqnoLimit);
     }
     if places < SLICE_PLACES {
-        let answer = Err(Refusal::SliceTooShort);
-        return no_extract(answer, cache);
+        return Some(Refusal::SliceTooShort);
     }
-    if let ExtractRequest::Pop(from) = request {
-        return pop_with_blocks(cache, from);
+    None
+}
+
+pub(crate) fn pop_with_blocks(cache: Cache, from: u32, places: usize) -> ExtractWithBlocks
+    ensures { ExtractsWithBlocks cache (pop from) places result }
+{
+    match extract_refusal(&cache, from, places) {
+        Some(refusal) => no_extract(Err(refusal), cache),
+        None => popped(&cache, from),
     }
-    sync_with_blocks(cache, seqno)
+}
+
+pub(crate) fn sync_with_blocks(cache: Cache, block_id: BlockId, places: usize) -> ExtractWithBlocks
+    ensures { ExtractsWithBlocks cache (sync block_id) places result }
+{
+    match extract_refusal(&cache, block_id.seqno, places) {
+        Some(refusal) => no_extract(Err(refusal), cache),
+        None => synced(&cache, block_id.seqno),
+    }
 }

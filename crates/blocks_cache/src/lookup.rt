@@ -1,121 +1,78 @@
 // RULES.md, How it is held: the shard block that is cached under a shard and seqno.
-ghost use Rattle.std.specs.Prelude.{◌≡◌, map};
-ghost use Rattle.blocks_cache.specs.arrays.Lookup.{block_place, first_ident_place, first_seqno_place, group_seqnos, no_seqnos, shard_seqnos};
+ghost use Rattle.std.specs.Prelude.{◌≡◌, length, map, option_map, slice_get};
+ghost use Rattle.block_records.specs.layout.Listed.{listed};
+ghost use Rattle.block_records.specs.rules.Limits.{entries_limit};
+ghost use Rattle.blocks_cache.specs.arrays.Lookup.{block_place, first_ident_place, first_seqno_place, group_seqnos, shard_seqnos};
+ghost use Rattle.blocks_cache.specs.arrays.Shards.{shard_ident};
+ghost use Rattle.blocks_group.specs.layout.Block.{block_seqno, shard_parts};
 
-use crate::cache::ShardGroup;
-use block_records::block_id::{BlockId, ShardIdent, id_shard, same_shard};
+use crate::cache::Shards;
+use block_records::block_id::{BlockId, ShardIdent};
 use block_records::limits::{ENTRIES_LIMIT, SHARDS_LIMIT};
-use block_records::listed::listed_count;
-use blocks_group::group::Group;
+use blocks_group::block::Block;
+use blocks_group::group::ShardBlocks;
 
-// An entry's seqno, and whether the entry is still cached.
-#[derive(Clone, Copy)]
-pub(crate) struct EntrySeqno {
-    pub seqno: u32,
-    pub cached: bool,
-}
-
-// The seqnos of a group's entries, in their places, and its mark.
-#[derive(Clone, Copy)]
+// The seqnos of a group's blocks, in their places, None where none is cached any more; and its mark.
+#[derive(Clone, Copy, Debug, PartialEq, Eq)]
 pub(crate) struct GroupSeqnos {
-    pub entries: [EntrySeqno; ENTRIES_LIMIT],
+    pub entries: [Option<u32>; ENTRIES_LIMIT],
     pub mark: Option<u32>,
 }
 
-// ===== the seqnos of the groups, gathered once: a loop over ids then copies no group =====
+// ===== the shards and seqnos of the groups, gathered once: a loop over ids then copies no group =====
 
-fn no_seqnos() -> GroupSeqnos
-    ensures { result ≡ no_seqnos }
+pub(crate) fn shard_idents(shards: &Shards) -> [ShardIdent; SHARDS_LIMIT]
+    ensures { result ≡ map shard_ident shards.now.items }
 {
-    let zero = EntrySeqno {
-        seqno: 0,
-        cached: false,
-    };
+    std::array::from_fn(|i| shards.items[i].shard)
+}
+
+// The seqno of the block at a place, if one is there.
+fn seqno_at(group: &ShardBlocks, place: usize) -> Option<u32>
+    ensures seqno { result ≡ option_map (block_seqno shard_parts) (slice_get (listed group.now.entries) place) }
+    ensures places { length group.now.entries.items ≡ entries_limit }
+{
+    group.entries.get(place).map(|block| block.seqno())
+}
+
+fn group_seqnos(group: &ShardBlocks) -> GroupSeqnos
+    ensures { result ≡ group_seqnos group.now }
+{
     GroupSeqnos {
-        entries: [zero; ENTRIES_LIMIT],
-        mark: None,
+        entries: std::array::from_fn(|i| seqno_at(group, i)),
+        mark: group.mark,
     }
 }
 
-fn group_seqnos(group: Group) -> GroupSeqnos
-    ensures { result ≡ group_seqnos group }
+pub(crate) fn shard_seqnos(shards: &Shards) -> [GroupSeqnos; SHARDS_LIMIT]
+    ensures { result ≡ map shard_seqnos shards.now.items }
 {
-    let zero = EntrySeqno {
-        seqno: 0,
-        cached: false,
-    };
-    let mut entries = [zero; ENTRIES_LIMIT];
-    let count = listed_count(group.count, ENTRIES_LIMIT);
-    let mut i: usize = 0;
-    while i < count {
-        entries[i] = EntrySeqno {
-            seqno: group.entries[i].block_id.seqno,
-            cached: true,
-        };
-        i += 1;
-    }
-    let mark = group.mark;
-    GroupSeqnos { entries, mark }
-}
-
-pub(crate) fn shard_seqnos(shards: [ShardGroup; SHARDS_LIMIT]) -> [GroupSeqnos; SHARDS_LIMIT]
-    ensures { result ≡ map shard_seqnos shards }
-{
-    let zero = no_seqnos();
-    let mut out = [zero; SHARDS_LIMIT];
-    let mut i: usize = 0;
-    while i < SHARDS_LIMIT {
-        let held = shards[i];
-        out[i] = group_seqnos(held.group);
-        i += 1;
-    }
-    out
+    std::array::from_fn(|i| group_seqnos(&shards.items[i].group))
 }
 
 // ===== the lookup, by an id's key =====
 
-fn first_ident_place(idents: [ShardIdent; SHARDS_LIMIT], shard: ShardIdent) -> Result<usize, usize>
-    ensures { result ≡ first_ident_place shard idents }
+fn first_ident_place(idents: &[ShardIdent], shard: ShardIdent) -> Option<usize>
+    ensures { result ≡ first_ident_place shard idents.now }
 {
-    let mut i: usize = 0;
-    while i < SHARDS_LIMIT {
-        let x = idents[i];
-        if same_shard(x, shard) {
-            return Ok(i);
-        }
-        i += 1;
-    }
-    Err(i)
+    idents.iter().position(|held| *held == shard)
 }
 
-fn first_seqno_place(group: GroupSeqnos, seqno: u32) -> Result<usize, usize>
-    ensures { result ≡ first_seqno_place seqno group }
+fn first_seqno_place(group: &GroupSeqnos, seqno: u32) -> Option<usize>
+    ensures { result ≡ first_seqno_place seqno group.now }
 {
-    let mut i: usize = 0;
-    while i < ENTRIES_LIMIT {
-        let x = group.entries[i];
-        if x.cached & (x.seqno == seqno) {
-            return Ok(i);
-        }
-        i += 1;
-    }
-    Err(i)
+    group.entries.iter().position(|held| *held == Some(seqno))
 }
 
 // Where the block under an id's key is cached: the place of its group, and its own in it.
 pub(crate) fn block_place(
-    idents: [ShardIdent; SHARDS_LIMIT],
-    seqnos: [GroupSeqnos; SHARDS_LIMIT],
+    idents: &[ShardIdent],
+    seqnos: &[GroupSeqnos],
     id: BlockId,
 ) -> Option<(usize, usize)>
-    ensures { result ≡ block_place id idents seqnos }
+    ensures { result ≡ block_place id idents.now seqnos.now }
 {
-    let shard = id_shard(id);
-    let Ok(at) = first_ident_place(idents, shard) else {
-        return None;
-    };
-    let Ok(place) = first_seqno_place(seqnos[at], id.seqno) else {
-        return None;
-    };
+    let at = first_ident_place(idents, id.shard)?;
+    let place = first_seqno_place(seqnos.get(at)?, id.seqno)?;
     Some((at, place))
 }

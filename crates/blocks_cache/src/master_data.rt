@@ -1,21 +1,20 @@
 // RULES.md, Master data: the last collated ids, and the applied range.
 ghost use Rattle.std.specs.List.{list_all};
 ghost use Rattle.std.specs.Prelude.{◌≡◌};
-ghost use Rattle.block_records.specs.arrays.Place.{place};
 ghost use Rattle.block_records.specs.rules.Lists.{rising};
-ghost use Rattle.blocks_cache.specs.arrays.MasterData.{drop_ids_below, drop_ids_from, has_id, has_place_for_id, highest_id, id_at, id_below, listed_ids, put_id};
+ghost use Rattle.blocks_cache.specs.arrays.MasterData.{drop_ids_below, drop_ids_from, has_id, has_place_for_id, highest_id, listed_ids, put_id};
 ghost use Rattle.blocks_cache.specs.layout.Cache.{sound_ids};
 ghost use Rattle.cache_rules.specs.Model.{id_before, moved_end, moved_start};
 ghost use Rattle.cache_rules.specs.Refusals.{id_masterchain, sound_range};
 
 use block_records::block_id::{BlockId, zero_id};
 use block_records::limits::IDS_LIMIT;
-use block_records::listed::{Listed, place_by};
+use block_records::listed::Listed;
 use block_records::range::AppliedRange;
 use block_records::store_records::zero_ids;
 
 // The last collated ids by seqno, with the applied range.
-#[derive(Clone, Copy, PartialEq, Eq)]
+#[derive(Clone, Copy, Debug, PartialEq, Eq)]
 pub struct MasterData {
     pub ids: Listed<BlockId, IDS_LIMIT>,
     pub range: Option<AppliedRange>,
@@ -83,35 +82,18 @@ pub(crate) fn has_place_for_id(data: MasterData, seqno: u32) -> bool
     ensures { result ≡ has_place_for_id seqno «data» }
 {
     let listed = has_id(data, seqno);
-    let few = data.ids.count < IDS_LIMIT;
-    listed | few
-}
-
-// Where an id of a seqno stands, or the place where it would go in.
-fn id_place(data: MasterData, seqno: u32) -> Result<usize, usize>
-    ensures { result ≡ place (id_below seqno) (id_at seqno) (listed_ids «data») }
-{
-    place_by(data.ids.listed(), |id| id.seqno.cmp(&seqno))
+    listed | data.ids.has_place()
 }
 
 // The id put in by seqno; one of the same seqno is replaced. Where 32 are listed and none is of the seqno, nothing changes.
 pub(crate) fn put_id(data: MasterData, id: BlockId) -> MasterData
     ensures { result ≡ put_id id «data» }
 {
-    match id_place(data, id.seqno) {
-        Ok(at) => MasterData {
-            ids: data.ids.spliced(at, at + 1, id, zero_id()),
-            ..data
-        },
-        Err(at) => {
-            if data.ids.count < IDS_LIMIT {
-                return MasterData {
-                    ids: data.ids.spliced(at, at, id, zero_id()),
-                    ..data
-                };
-            }
-            data
-        }
+    MasterData {
+        ids: data
+            .ids
+            .put_by(|known| known.seqno.cmp(&id.seqno), id, zero_id()),
+        ..data
     }
 }
 

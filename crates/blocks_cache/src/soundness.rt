@@ -1,91 +1,60 @@
 // RULES.md, Soundness: question 1, of the whole cache.
 ghost use Rattle.std.specs.List.{list_all};
-ghost use Rattle.std.specs.Prelude.{◌≡◌, take, drop};
+ghost use Rattle.std.specs.Prelude.{◌≡◌};
 ghost use Rattle.block_records.specs.rules.Lists.{rising};
 ghost use Rattle.blocks_cache.specs.layout.Cache.{is_zero_shard_group, shard_group_before, sound_cache, sound_shard_group, sound_shards};
 
-use crate::cache::{Cache, ShardGroup};
+use crate::cache::{Cache, ShardGroup, Shards};
 use crate::master_data::{sound_ids, sound_range};
-use block_records::block_id::{is_masterchain, is_zero_shard, less_shard};
+use block_records::block_id::zero_shard;
 use block_records::limits::SHARDS_LIMIT;
-use blocks_group::soundness::{is_zero_group, sound_group, sound_master_group};
 
 // ===== shard groups =====
 
-fn is_zero_shard_group(group: ShardGroup) -> bool
-    ensures { result ≡ is_zero_shard_group group }
+fn is_zero_shard_group(held: &ShardGroup) -> bool
+    ensures { result ≡ is_zero_shard_group held.now }
 {
-    let s = is_zero_shard(group.shard);
-    let g = is_zero_group(group.group);
-    s & g
+    let shard = held.shard == zero_shard();
+    shard & held.group.is_empty()
 }
 
 // The shard is not of the masterchain, and the group is sound for it.
-fn sound_shard_group(group: ShardGroup) -> bool
-    ensures { result ≡ sound_shard_group group }
+fn sound_shard_group(held: &ShardGroup) -> bool
+    ensures { result ≡ sound_shard_group held.now }
 {
-    let shard = group.shard;
-    let m = is_masterchain(shard);
-    let g = sound_group(group.group, shard);
-    !m & g
+    let own = held.shard;
+    let outside = !own.is_masterchain();
+    let sound = held.group.is_sound(|shard| shard == own);
+    outside & sound
 }
 
-fn shards_zero(shards: [ShardGroup; SHARDS_LIMIT], from: usize) -> bool
-    ensures { result ≡ list_all is_zero_shard_group (drop from shards) }
+fn shards_zero(groups: &[ShardGroup]) -> bool
+    ensures { result ≡ list_all is_zero_shard_group groups.now }
 {
-    let mut i: usize = from;
-    while i < SHARDS_LIMIT {
-        if !is_zero_shard_group(shards[i]) {
-            return false;
-        }
-        i += 1;
-    }
-    true
+    groups.iter().all(|held| is_zero_shard_group(held))
 }
 
-fn shards_each_sound(shards: [ShardGroup; SHARDS_LIMIT], count: usize) -> bool
-    ensures { result ≡ list_all sound_shard_group (take count shards) }
+fn shards_each_sound(groups: &[ShardGroup]) -> bool
+    ensures { result ≡ list_all sound_shard_group groups.now }
 {
-    let mut i: usize = 0;
-    while i < SHARDS_LIMIT {
-        if count <= i {
-            return true;
-        }
-        if !sound_shard_group(shards[i]) {
-            return false;
-        }
-        i += 1;
-    }
-    true
+    groups.iter().all(|held| sound_shard_group(held))
 }
 
 // Each shard comes after the one before it.
-fn shards_rise(shards: [ShardGroup; SHARDS_LIMIT], count: usize) -> bool
-    ensures { result ≡ rising shard_group_before (take count shards) }
+fn shards_rise(groups: &[ShardGroup]) -> bool
+    ensures { result ≡ rising shard_group_before groups.now }
 {
-    let mut i: usize = 1;
-    while i < SHARDS_LIMIT {
-        if count <= i {
-            return true;
-        }
-        let before = shards[i - 1];
-        let group = shards[i];
-        if !less_shard(before.shard, group.shard) {
-            return false;
-        }
-        i += 1;
-    }
-    true
+    groups.is_sorted_by(|a, b| a.shard < b.shard)
 }
 
-fn sound_shards(shards: [ShardGroup; SHARDS_LIMIT], count: usize) -> bool
-    ensures { result ≡ sound_shards count shards }
+fn sound_shards(shards: &Shards) -> bool
+    ensures { result ≡ sound_shards shards.now }
 {
-    let c = count <= SHARDS_LIMIT;
-    let z = shards_zero(shards, count);
-    let o = shards_rise(shards, count);
-    let s = shards_each_sound(shards, count);
-    c & (z & (o & s))
+    let few = shards.count <= SHARDS_LIMIT;
+    let zeros = shards_zero(shards.unlisted());
+    let rise = shards_rise(shards.listed());
+    let sound = shards_each_sound(shards.listed());
+    few & (zeros & (rise & sound))
 }
 
 // ===== question 1 =====
@@ -93,14 +62,9 @@ fn sound_shards(shards: [ShardGroup; SHARDS_LIMIT], count: usize) -> bool
 pub fn sound_cache(cache: Cache) -> bool
     ensures { result ≡ sound_cache cache }
 {
-    let m = sound_master_group(cache.masters);
-    let group = cache.masters.group;
-    let mark = group.mark;
-    let data = cache.data;
-    let range = data.range;
-    let r = sound_range(mark, range);
-    let i = sound_ids(data);
-    let shards = cache.shards;
-    let s = sound_shards(shards, cache.shard_count);
-    m & (r & (i & s))
+    let masters = cache.masters.is_sound(|shard| shard.is_masterchain());
+    let range = sound_range(cache.masters.mark, cache.data.range);
+    let ids = sound_ids(cache.data);
+    let shards = sound_shards(&cache.shards);
+    masters & (range & (ids & shards))
 }

@@ -1,40 +1,23 @@
 // RULES.md, Pop and Sync extraction: the blocks are written into a lent slice, from its first place on.
-ghost use Rattle.std.specs.Prelude.{◌≡◌, ◌+◌, ◌≤◌, length, take, drop};
-ghost use Rattle.blocks_cache.specs.arrays.LentSlices.{filled_at, lent_places};
-ghost use Rattle.blocks_cache.specs.arrays.Subgraphs.{extract_on, extract_outcome, zeroed_extract};
+ghost use Rattle.std.specs.Prelude.{◌≡◌, ◌≤◌, length, take, drop};
+ghost use Rattle.blocks_cache.specs.arrays.Subgraphs.{extract_outcome, joined_blocks, lent_places, zeroed_extract};
 ghost use Rattle.blocks_cache.specs.layout.Cache.{call_on};
 ghost use Rattle.cache_rules.specs.Calls.{pop, sync};
+ghost use Rattle.cache_rules.specs.Effects.{at_front};
 
 use crate::cache::Cache;
-use crate::extraction::{ExtractRequest, SubgraphExtract, extract_with_blocks};
+use crate::extraction::{ExtractWithBlocks, SubgraphExtract, pop_with_blocks, sync_with_blocks};
 use block_records::block_id::BlockId;
 use block_records::entry::BlockCacheEntry;
-use block_records::limits::{ARRAY_PLACES, SLICE_PLACES};
+use block_records::limits::ARRAY_PLACES;
 
-// The first n blocks go into the slice from a place on; what stands before and after them stays.
-fn fill(out: &mut [BlockCacheEntry], at: usize, blocks: [BlockCacheEntry; SLICE_PLACES], n: usize)
-    requires { (at + n ≤ length out.old) × (n ≤ 128) }
-    ensures { out.new ≡ filled_at at n blocks out.old }
+// The blocks that joined go over the front of the slice; what stands after them stays.
+fn put_at_front(plain: &ExtractWithBlocks, out: &mut [BlockCacheEntry])
+    requires { (plain.now.extract.joined ≤ length out.old) × (plain.now.extract.joined ≤ 128) }
+    ensures { out.new ≡ at_front (joined_blocks plain.now) out.old }
 {
-    let mut i: usize = 0;
-    while i < n {
-        out[at + i] = blocks[i];
-        i += 1;
-    }
-}
-
-// A request's extraction, with its blocks written into the lent slice.
-pub(crate) fn extract_mc_block_subgraph(
-    cache: Cache,
-    request: ExtractRequest,
-    out: &mut [BlockCacheEntry],
-) -> SubgraphExtract
-    ensures { (extract_outcome result out.new ≡ extract_on cache request out.old) × (result ≡ zeroed_extract result) }
-{
-    let plain = extract_with_blocks(cache, request, out.len());
-    let extract = plain.extract;
-    fill(out, 0, plain.blocks, extract.joined);
-    extract
+    let joined = plain.extract.joined;
+    out[..joined].copy_from_slice(&plain.blocks[..joined]);
 }
 
 pub fn pop_front_applied_mc_block_subgraph(
@@ -44,8 +27,9 @@ pub fn pop_front_applied_mc_block_subgraph(
 ) -> SubgraphExtract
     ensures { (extract_outcome result out.new ≡ call_on cache (record { request = pop from; lent = out.old })) × (result ≡ zeroed_extract result) }
 {
-    let request = ExtractRequest::Pop(from);
-    extract_mc_block_subgraph(cache, request, out)
+    let plain = pop_with_blocks(cache, from, out.len());
+    put_at_front(&plain, out);
+    plain.extract
 }
 
 pub fn extract_mc_block_subgraph_for_sync(
@@ -55,11 +39,12 @@ pub fn extract_mc_block_subgraph_for_sync(
 ) -> SubgraphExtract
     ensures { (extract_outcome result out.new ≡ call_on cache (record { request = sync block_id; lent = out.old })) × (result ≡ zeroed_extract result) }
 {
-    let request = ExtractRequest::Sync(block_id.seqno);
-    extract_mc_block_subgraph(cache, request, out)
+    let plain = sync_with_blocks(cache, block_id, out.len());
+    put_at_front(&plain, out);
+    plain.extract
 }
 
-#[derive(Clone, Copy)]
+#[derive(Clone, Copy, Debug, PartialEq, Eq)]
 pub struct ArrayExtract {
     pub extract: SubgraphExtract,
     pub blocks: [BlockCacheEntry; ARRAY_PLACES],
@@ -69,10 +54,7 @@ pub struct ArrayExtract {
 pub(crate) fn lent_places(lent: usize) -> usize
     ensures { result ≡ lent_places lent }
 {
-    if lent < ARRAY_PLACES {
-        return lent;
-    }
-    ARRAY_PLACES
+    lent.min(ARRAY_PLACES)
 }
 
 // Pop for callers that can't lend a slice of records: a local array's first places are lent, and the rest stays.

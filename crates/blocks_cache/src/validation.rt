@@ -1,7 +1,6 @@
 // RULES.md, Validation: the outcome of a validation brought to the master at its seqno.
 ghost use Rattle.std.specs.Prelude.{◌≡◌};
-ghost use Rattle.blocks_cache.specs.arrays.Cache.{with_master_group};
-ghost use Rattle.blocks_cache.specs.arrays.Validation.{pack_kind, validate_master, validation_outcome, view_validation};
+ghost use Rattle.blocks_cache.specs.arrays.Validation.{validate_master, validation_outcome, view_validation};
 ghost use Rattle.blocks_cache.specs.layout.Cache.{call_on};
 ghost use Rattle.cache_rules.specs.Calls.{store_validation, unlent};
 ghost use Rattle.cache_rules.specs.Effects.{result_handle, result_status, result_weight, validated_kind};
@@ -9,45 +8,35 @@ ghost use Rattle.cache_rules.specs.Effects.{result_handle, result_status, result
 use crate::cache::Cache;
 use crate::soundness::sound_cache;
 use block_records::block_id::BlockId;
-use block_records::entry::{
-    BlockCacheEntryData, CandidateStatus, MasterBlock, same_status, with_data,
-};
+use block_records::entry::{BlockCacheEntryData, CandidateStatus};
 use block_records::questions::{Refusal, id_fits};
-use blocks_group::group::{MasterGroup, master_at, put_master};
+use blocks_group::block::Block;
 
-#[derive(Clone, Copy, PartialEq, Eq)]
+// An Option would be no plainer: Skipped is an outcome with a name of its own, and it sets a status as Complete does.
+#[derive(Clone, Copy, Debug, PartialEq, Eq)]
 pub enum ValidationStatus {
     Complete { signatures: u64, total_weight: u64 },
     Skipped,
 }
 
-#[derive(Clone, Copy, PartialEq, Eq)]
+// An Option would be no plainer: NoChange is an answer with a name of its own, which callers read, and not the lack of one.
+#[derive(Clone, Copy, Debug, PartialEq, Eq)]
 pub enum ValidationAnswer {
     Updated(CandidateStatus),
     NoChange,
 }
 
-#[derive(Clone, Copy, PartialEq, Eq)]
+#[derive(Clone, Copy, Debug, PartialEq, Eq)]
 pub struct ValidationResult {
     pub answer: Result<ValidationAnswer, Refusal>,
     pub cache: Cache,
-}
-
-// An entry's kind after validation, and whether it is another than before.
-#[derive(Clone, Copy)]
-pub(crate) struct ValidatedKind {
-    pub changed: bool,
-    pub data: BlockCacheEntryData,
 }
 
 fn result_status(status: ValidationStatus) -> CandidateStatus
     ensures { result ≡ result_status (view_validation status) }
 {
     match status {
-        ValidationStatus::Complete {
-            signatures: _,
-            total_weight: _,
-        } => CandidateStatus::Validated,
+        ValidationStatus::Complete { .. } => CandidateStatus::Validated,
         ValidationStatus::Skipped => CandidateStatus::ValidationSkipped,
     }
 }
@@ -56,10 +45,7 @@ fn result_handle(status: ValidationStatus) -> u64
     ensures { result ≡ result_handle (view_validation status) }
 {
     match status {
-        ValidationStatus::Complete {
-            signatures,
-            total_weight: _,
-        } => signatures,
+        ValidationStatus::Complete { signatures, .. } => signatures,
         ValidationStatus::Skipped => 0,
     }
 }
@@ -68,94 +54,60 @@ fn result_weight(status: ValidationStatus) -> u64
     ensures { result ≡ result_weight (view_validation status) }
 {
     match status {
-        ValidationStatus::Complete {
-            signatures: _,
-            total_weight,
-        } => total_weight,
+        ValidationStatus::Complete { total_weight, .. } => total_weight,
         ValidationStatus::Skipped => 0,
     }
 }
 
-// The kind with the validation's status, handle and weight; one that is Received, Synced or of that status already stays.
-fn validated_kind(status: ValidationStatus, data: BlockCacheEntryData) -> ValidatedKind
-    ensures { result ≡ pack_kind «data» (validated_kind (view_validation status) «data») }
+// The kind with the validation's status, handle and weight; nothing where it stays: Received, Synced or of that status already.
+fn validated_kind(
+    status: ValidationStatus,
+    data: BlockCacheEntryData,
+) -> Option<BlockCacheEntryData>
+    ensures { result ≡ validated_kind (view_validation status) «data» }
 {
     let BlockCacheEntryData::Collated {
         status: known,
         received_after_collation,
-        signatures: _,
-        total_signature_weight: _,
         processed_to_anchor,
+        ..
     } = data
     else {
-        return ValidatedKind {
-            changed: false,
-            data,
-        };
+        return None;
     };
     let new = result_status(status);
-    let synced = same_status(known, CandidateStatus::Synced);
-    let same = same_status(known, new);
-    if synced | same {
-        return ValidatedKind {
-            changed: false,
-            data,
-        };
+    if known == CandidateStatus::Synced || known == new {
+        return None;
     }
-    let signatures = result_handle(status);
-    let weight = result_weight(status);
-    let set = BlockCacheEntryData::Collated {
+    Some(BlockCacheEntryData::Collated {
         status: new,
         received_after_collation,
-        signatures,
-        total_signature_weight: weight,
+        signatures: result_handle(status),
+        total_signature_weight: result_weight(status),
         processed_to_anchor,
-    };
-    ValidatedKind {
-        changed: true,
-        data: set,
-    }
-}
-
-// The cache with other masters.
-fn with_master_group(cache: Cache, masters: MasterGroup) -> Cache
-    ensures { result ≡ with_master_group masters cache }
-{
-    let mut out = cache;
-    out.masters = masters;
-    out
+    })
 }
 
 // The master is looked up by the id's seqno alone.
 fn validate_master(cache: Cache, seqno: u32, status: ValidationStatus) -> ValidationResult
     ensures { result ≡ validate_master seqno (view_validation status) cache }
 {
-    let at = master_at(cache.masters, seqno);
-    let found = at.found;
-    let Ok(_) = found else {
-        return ValidationResult {
-            answer: Ok(ValidationAnswer::NoChange),
-            cache,
-        };
-    };
-    let entry = at.block.entry;
-    let data = entry.data;
-    let kind = validated_kind(status, data);
-    if !kind.changed {
-        return ValidationResult {
-            answer: Ok(ValidationAnswer::NoChange),
-            cache,
-        };
-    }
-    let set = kind.data;
-    let entry = with_data(entry, set);
-    let tops = at.block.tops;
-    let masters = put_master(cache.masters, MasterBlock { entry, tops });
-    let cache = with_master_group(cache, masters);
-    let new = result_status(status);
-    ValidationResult {
-        answer: Ok(ValidationAnswer::Updated(new)),
+    let unchanged = ValidationResult {
+        answer: Ok(ValidationAnswer::NoChange),
         cache,
+    };
+    let Some(block) = cache.masters.at(seqno) else {
+        return unchanged;
+    };
+    let Some(kind) = validated_kind(status, block.entry.data) else {
+        return unchanged;
+    };
+    ValidationResult {
+        answer: Ok(ValidationAnswer::Updated(result_status(status))),
+        cache: Cache {
+            masters: cache.masters.put(block.with_data(kind)),
+            ..cache
+        },
     }
 }
 

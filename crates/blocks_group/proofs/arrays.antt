@@ -1,12 +1,6 @@
 pub mod SearchLaws
-pub mod PutLaws
 pub mod LookupLaws
-pub mod LoopLaws
-pub mod GroupStepLaws
 pub mod GroupLaws
 pub mod SoundnessLaws
 pub mod QueryLaws
-pub mod QueryStepLaws
 pub mod StoreLaws
-pub mod StoreStepLaws
-pub mod SoundStepLaws

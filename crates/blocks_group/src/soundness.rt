@@ -1,219 +1,87 @@
-// RULES.md, Soundness: of one group, by its counts, entries, boundary and the places after its entries.
+// RULES.md, Soundness: of one group, by its counts, blocks, boundary and the places after its blocks.
 ghost use Rattle.std.specs.List.{list_all};
-ghost use Rattle.std.specs.Prelude.{◌≡◌};
-ghost use Rattle.block_records.specs.rules.BlockId.{is_masterchain};
+ghost use Rattle.std.specs.Prelude.{◌≡◌, Bool};
+ghost use Rattle.block_records.specs.declared.block_id.ShardIdent.{ShardIdent as Shard};
 ghost use Rattle.block_records.specs.rules.Lists.{rising};
-ghost use Rattle.blocks_group.specs.arrays.Group.{beside, held_before, listed_entries};
-ghost use Rattle.blocks_group.specs.arrays.Soundness.{entries_zero_beyond, held_boundary_in, sound_entry, sound_master, tops_zero_beyond};
-ghost use Rattle.blocks_group.specs.layout.Group.{is_zero_boundary, is_zero_group, is_zero_mark, sound_group, sound_master_group};
-ghost use Rattle.blocks_group.specs.rules.Soundness.{of_shard};
+ghost use Rattle.blocks_group.specs.arrays.Soundness.{sound_block};
+ghost use Rattle.blocks_group.specs.layout.Block.{block_before, is_zero_block};
+ghost use Rattle.blocks_group.specs.layout.Group.{is_empty_group, sound_group};
+ghost use Rattle.blocks_group.specs.rules.Soundness.{boundary_in};
 
-use crate::group::{Group, MasterGroup};
-use block_records::block_id::{
-    BlockIdShort, ShardIdent, id_shard, is_masterchain, key_shard, same_shard,
-};
-use block_records::entry::{BlockCacheEntry, entry_tidy, is_zero_entry};
+use crate::block::Block;
+use crate::group::Group;
+use block_records::block_id::{BlockIdShort, ShardIdent};
 use block_records::limits::ENTRIES_LIMIT;
-use block_records::questions::{held_entry_fits, held_shard_entry_fits};
-use block_records::top_block::{TopBlocks, is_zero_tops, tops_tidy};
 
-// ===== the listed entries =====
-
-fn sound_entry(entry: BlockCacheEntry, shard: ShardIdent) -> bool
-    ensures { result ≡ sound_entry (of_shard shard) entry }
+// Whether all blocks are zeros, as in unused places.
+fn all_zero<B: Block>(blocks: &[B]) -> bool
+    ensures { result ≡ list_all (is_zero_block B.parts) blocks.now }
 {
-    let t = entry_tidy(entry);
-    let own = id_shard(entry.block_id);
-    let s = same_shard(own, shard);
-    let f = held_shard_entry_fits(entry);
-    t & (s & f)
+    blocks.iter().all(|block| block.is_zero())
 }
 
-// The same of a master with its top items.
-fn sound_master(entry: BlockCacheEntry, tops: TopBlocks) -> bool
-    ensures { result ≡ sound_master (record { entry = entry; tops = tops }) }
+// Whether each block's seqno is above that of the one before it.
+fn seqnos_rise<B: Block>(blocks: &[B]) -> bool
+    ensures { result ≡ rising (block_before B.parts) blocks.now }
 {
-    let t = entry_tidy(entry);
-    let i = tops_tidy(tops);
-    let own = id_shard(entry.block_id);
-    let m = is_masterchain(own);
-    let f = held_entry_fits(entry, tops);
-    t & (i & (m & f))
+    blocks.is_sorted_by(|a, b| a.seqno() < b.seqno())
 }
 
-fn sound_masters(group: Group, tops: [TopBlocks; ENTRIES_LIMIT]) -> bool
-    ensures { result ≡ list_all sound_master (beside (listed_entries group) tops) }
+// Whether a block is tidy, passes questions 2 to 4 and is of a shard that the group is for.
+fn sound_block<B: Block, F: Fn(ShardIdent) -> bool>(block: &B, is_for: &F) -> bool
+    requires { F.IsAlwaysCallable is_for.now }
+    ensures { (p : Shard → Bool) → ((s : Shard) (b : Bool) → F.post is_for.now s b → b ≡ p s) → result ≡ sound_block B.parts p block.now }
 {
-    let count = group.count;
-    let mut i: usize = 0;
-    while i < ENTRIES_LIMIT {
-        if count <= i {
-            return true;
-        }
-        if !sound_master(group.entries[i], tops[i]) {
+    let fits = block.fits();
+    let shard = is_for(block.entry().block_id.shard);
+    fits & shard
+}
+
+fn sound_blocks<B: Block, F: Fn(ShardIdent) -> bool>(blocks: &[B], is_for: &F) -> bool
+    requires { F.IsAlwaysCallable is_for.now }
+    ensures { (p : Shard → Bool) → ((s : Shard) (b : Bool) → F.post is_for.now s b → b ≡ p s) → result ≡ list_all (sound_block B.parts p) blocks.now }
+{
+    for block in blocks {
+        if !sound_block(block, is_for) {
             return false;
         }
-        i += 1;
     }
     true
 }
 
-// ===== order: each seqno above the one before it =====
-
-fn seqnos_rise(group: Group) -> bool
-    ensures { result ≡ rising held_before (listed_entries group) }
-{
-    let count = group.count;
-    let mut last = group.entries[0].block_id.seqno;
-    let mut i: usize = 1;
-    while i < ENTRIES_LIMIT {
-        if count <= i {
-            return true;
-        }
-        let seqno = group.entries[i].block_id.seqno;
-        if seqno <= last {
-            return false;
-        }
-        last = seqno;
-        i += 1;
-    }
-    true
-}
-
-// ===== zeros after what is listed =====
-
-fn entries_zero_beyond(group: Group) -> bool
-    ensures { result ≡ entries_zero_beyond group.count group.entries }
-{
-    let mut i: usize = group.count;
-    while i < ENTRIES_LIMIT {
-        if !is_zero_entry(group.entries[i]) {
-            return false;
-        }
-        i += 1;
-    }
-    true
-}
-
-fn tops_zero_beyond(tops: [TopBlocks; ENTRIES_LIMIT], from: usize) -> bool
-    ensures { result ≡ tops_zero_beyond from tops }
-{
-    let mut i: usize = from;
-    while i < ENTRIES_LIMIT {
-        if !is_zero_tops(tops[i]) {
-            return false;
-        }
-        i += 1;
-    }
-    true
-}
-
-// ===== the boundary =====
-
-fn boundary_in_shard(boundary: Option<BlockIdShort>, shard: ShardIdent) -> bool
-    ensures { result ≡ held_boundary_in (of_shard shard) boundary }
+// Whether there is no boundary, or one of a shard that the group is for.
+fn boundary_in<F: Fn(ShardIdent) -> bool>(boundary: Option<BlockIdShort>, is_for: &F) -> bool
+    requires { F.IsAlwaysCallable is_for.now }
+    ensures { (p : Shard → Bool) → ((s : Shard) (b : Bool) → F.post is_for.now s b → b ≡ p s) → result ≡ boundary_in p boundary }
 {
     match boundary {
         None => true,
-        Some(short) => {
-            let own = key_shard(short);
-            same_shard(own, shard)
-        }
+        Some(key) => is_for(key.shard),
     }
 }
 
-fn boundary_in_masterchain(boundary: Option<BlockIdShort>) -> bool
-    ensures { result ≡ held_boundary_in is_masterchain boundary }
-{
-    match boundary {
-        None => true,
-        Some(short) => {
-            let own = key_shard(short);
-            is_masterchain(own)
-        }
+impl<B: Block> Group<B> {
+    // Whether the group is empty, as it stands in an unused place.
+    pub fn is_empty(&self) -> bool
+        ensures { result ≡ is_empty_group B.parts self.now }
+    {
+        let mark = self.mark.is_none();
+        let boundary = self.boundary.is_none();
+        let count = self.entries.count == 0;
+        mark & (boundary & (count & all_zero(&self.entries.items)))
     }
-}
 
-// ===== a group of zeros, as it stands in an unused place =====
-
-fn is_zero_mark(mark: Option<u32>) -> bool
-    ensures { result ≡ is_zero_mark mark }
-{
-    match mark {
-        None => true,
-        Some(_) => false,
+    // Question 1 of a group, by the test of the shards that it is for.
+    pub fn is_sound<F: Fn(ShardIdent) -> bool>(&self, is_for: F) -> bool
+        requires { F.IsAlwaysCallable is_for }
+        ensures { (p : Shard → Bool) → ((s : Shard) (b : Bool) → F.post is_for s b → b ≡ p s) → result ≡ sound_group B.parts p self.now }
+    {
+        let blocks = self.entries.listed();
+        let few = self.entries.count <= ENTRIES_LIMIT;
+        let sound = sound_blocks(blocks, &is_for);
+        let rise = seqnos_rise(blocks);
+        let zeros = all_zero(self.entries.unlisted());
+        let bound = boundary_in(self.boundary, &is_for);
+        few & (sound & (rise & (zeros & bound)))
     }
-}
-
-fn is_zero_boundary(boundary: Option<BlockIdShort>) -> bool
-    ensures { result ≡ is_zero_boundary boundary }
-{
-    match boundary {
-        None => true,
-        Some(_) => false,
-    }
-}
-
-pub fn is_zero_group(group: Group) -> bool
-    ensures { result ≡ is_zero_group group }
-{
-    let c = group.count == 0;
-    let mark = group.mark;
-    let m = is_zero_mark(mark);
-    let boundary = group.boundary;
-    let b = is_zero_boundary(boundary);
-    let z = entries_zero_beyond(group);
-    c & (m & (b & z))
-}
-
-// ===== question 1 =====
-
-// One pass: a group that is passed on would be copied.
-pub fn sound_group(group: Group, shard: ShardIdent) -> bool
-    ensures { result ≡ sound_group (of_shard shard) group }
-{
-    let count = group.count;
-    if ENTRIES_LIMIT < count {
-        return false;
-    }
-    let boundary = group.boundary;
-    if !boundary_in_shard(boundary, shard) {
-        return false;
-    }
-    let mut last: u32 = 0;
-    let mut i: usize = 0;
-    while i < ENTRIES_LIMIT {
-        let entry = group.entries[i];
-        if count <= i {
-            if !is_zero_entry(entry) {
-                return false;
-            }
-            i += 1;
-            continue;
-        }
-        if !sound_entry(entry, shard) {
-            return false;
-        }
-        if (entry.block_id.seqno <= last) & (0 < i) {
-            return false;
-        }
-        last = entry.block_id.seqno;
-        i += 1;
-    }
-    true
-}
-
-pub fn sound_master_group(masters: MasterGroup) -> bool
-    ensures { result ≡ sound_master_group masters }
-{
-    let group = masters.group;
-    let tops = masters.tops;
-    let c = group.count <= ENTRIES_LIMIT;
-    let e = sound_masters(group, tops);
-    let o = seqnos_rise(group);
-    let z = entries_zero_beyond(group);
-    let t = tops_zero_beyond(tops, group.count);
-    let boundary = group.boundary;
-    let b = boundary_in_masterchain(boundary);
-    c & (e & (o & (z & (t & b))))
 }

@@ -1,16 +1,18 @@
 // The entries, groups and caches that the cases leave, written out.
-use crate::places::{listed, padded};
+use crate::places::listed;
 use crate::trial::new;
-use block_records::block_id::{BlockId, zero_id, zero_shard};
+use block_records::block_id::{BlockId, zero_id};
 use block_records::entry::{
-    BlockCacheEntry, BlockCacheEntryData, CandidateStatus, MasterBlock, zero_entry,
+    BlockCacheEntry, BlockCacheEntryData, CandidateStatus, MasterBlock, zero_entry, zero_master,
 };
+use block_records::limits::ENTRIES_LIMIT;
+use block_records::listed::Listed;
 use block_records::range::AppliedRange;
 use block_records::store_records::{PrevIds, zero_prev_ids};
 use block_records::top_block::{TopBlocks, zero_tops};
-use blocks_cache::cache::{Cache, ShardGroup};
+use blocks_cache::cache::{Cache, ShardGroup, zero_shard_group};
 use blocks_cache::master_data::MasterData;
-use blocks_group::group::{Group, MasterGroup, zero_group};
+use blocks_group::group::{Group, MasterGroup, ShardBlocks};
 
 // ===== kinds and entries =====
 
@@ -78,16 +80,15 @@ pub fn received_master(id: BlockId, tops: TopBlocks) -> MasterBlock {
 
 // ===== groups =====
 
-pub fn group(entries: &[BlockCacheEntry], mark: Option<u32>) -> Group {
+pub fn group(entries: &[BlockCacheEntry], mark: Option<u32>) -> ShardBlocks {
     Group {
-        entries: padded(entries, zero_entry()),
-        count: entries.len(),
         mark,
         boundary: None,
+        entries: listed(entries, zero_entry()),
     }
 }
 
-pub fn shard_group(id: BlockId, group: Group) -> ShardGroup {
+pub fn shard_group(id: BlockId, group: ShardBlocks) -> ShardGroup {
     ShardGroup {
         shard: id.shard,
         group,
@@ -104,32 +105,39 @@ pub fn master_data(ids: &[BlockId], range: Option<AppliedRange>) -> MasterData {
     }
 }
 
-// The first master's top items beside the masters.
-pub fn cache(masters: Group, tops: TopBlocks, data: MasterData) -> Cache {
-    let masters = MasterGroup {
-        group: masters,
-        tops: padded(&[tops], zero_tops()),
-    };
+// The master blocks of entries, the first with its top items.
+pub fn masters(group: ShardBlocks, tops: TopBlocks) -> MasterGroup {
+    let mut blocks = [zero_master(); ENTRIES_LIMIT];
+    for (block, entry) in blocks.iter_mut().zip(group.entries.items.iter()) {
+        block.entry = *entry;
+    }
+    blocks[0].tops = tops;
+    Group {
+        mark: group.mark,
+        boundary: group.boundary,
+        entries: Listed {
+            count: group.entries.count,
+            items: blocks,
+        },
+    }
+}
+
+pub fn cache(group: ShardBlocks, tops: TopBlocks, data: MasterData) -> Cache {
     Cache {
-        masters,
+        masters: masters(group, tops),
         data,
         ..new()
     }
 }
 
 // Masters with no top items.
-pub fn bare_cache(masters: Group, data: MasterData) -> Cache {
-    cache(masters, zero_tops(), data)
+pub fn bare_cache(group: ShardBlocks, data: MasterData) -> Cache {
+    cache(group, zero_tops(), data)
 }
 
 pub fn with_shards(left: Cache, shards: &[ShardGroup]) -> Cache {
-    let zero = ShardGroup {
-        shard: zero_shard(),
-        group: zero_group(),
-    };
     Cache {
-        shards: padded(shards, zero),
-        shard_count: shards.len(),
+        shards: listed(shards, zero_shard_group()),
         ..left
     }
 }

@@ -8,7 +8,7 @@ use crate::ids::{mc, mc_other};
 use crate::outcome::{Outcome, expect};
 use crate::places::listed;
 use crate::trial::{Trial, new};
-use block_records::block_id::{key, zero_key};
+use block_records::block_id::zero_key;
 use block_records::entry::{BlockCacheEntryData, CandidateStatus, MasterBlock};
 use block_records::questions::Refusal;
 use block_records::store_records::zero_prev_ids;
@@ -177,7 +177,7 @@ pub fn c10() -> Outcome {
 fn collected_to_7() -> Cache {
     let m7 = collated_block(mc(7), zero_prev_ids());
     let masters = Group {
-        boundary: Some(key(mc(7))),
+        boundary: Some(mc(7).as_short_id()),
         ..group(&[m7], None)
     };
     bare_cache(masters, master_data(&[mc(6), mc(7)], None))
@@ -189,7 +189,7 @@ pub fn c11() -> Outcome {
     trial.collate_alone(mc(5));
     trial.collate_alone(mc(6));
     trial.collate_alone(mc(7));
-    let to_7 = listed(&[key(mc(7))], zero_key());
+    let to_7 = listed(&[mc(7).as_short_id()], zero_key());
     expect(trial.set_boundary(to_7).is_ok())?;
     expect(trial.collect().is_ok())?;
     trial.leaves(&collected_to_7())

@@ -7,7 +7,7 @@ use crate::expected::{
 use crate::ids::{after, high, low, mc, sc, top, tops};
 use crate::outcome::{Outcome, expect};
 use crate::trial::Trial;
-use block_records::block_id::{BlockId, key};
+use block_records::block_id::BlockId;
 use block_records::store_records::zero_prev_ids;
 use blocks_cache::cache::Cache;
 use blocks_cache::tail_ids::TailIdsRow;
@@ -92,11 +92,11 @@ fn is_row(row: &TailIdsRow, id: BlockId, prev_ids: &[BlockId]) -> bool {
 // The tail ids of that m5: its own row without previous ids, and for the shard that of s2, which follows s1. The cache is as it was.
 pub fn c14() -> Outcome {
     let trial = chain();
-    let tail_ids = trial.tail_ids(key(mc(5)));
+    let tail_ids = trial.tail_ids(mc(5).as_short_id());
     expect(tail_ids.answer.is_ok())?;
     expect(tail_ids.tails.count == 2)?;
-    expect(is_row(&tail_ids.tails.rows[0], mc(5), &[]))?;
-    expect(is_row(&tail_ids.tails.rows[1], sc(2), &[sc(1)]))?;
+    expect(is_row(&tail_ids.tails.items[0], mc(5), &[]))?;
+    expect(is_row(&tail_ids.tails.items[1], sc(2), &[sc(1)]))?;
     trial.leaves(&chained())
 }
 

@@ -155,7 +155,7 @@ impl Peeked<'_> {
         let missing = Shown(self.0.missing);
         let master = Shown(self.0.master);
         writeln!(f, "found missing={missing}\nmaster {master}")?;
-        for top in self.0.tops.iter().take(self.0.count) {
+        for top in self.0.tops.listed() {
             let top = Shown(*top);
             writeln!(f, "top {top}")?;
         }
@@ -193,7 +193,7 @@ impl Tails<'_> {
     fn rows<W: fmt::Write>(&self, f: &mut fmt::Formatter<W>) -> fmt::Result {
         let count = self.0.tails.count;
         writeln!(f, "rows {count}")?;
-        for row in self.0.tails.rows.iter().take(count) {
+        for row in self.0.tails.listed() {
             let row = Shown(row);
             writeln!(f, "row {row}")?;
         }

@@ -1,7 +1,6 @@
 // The counted view of the cache.
-use crate::parts::{Marks, entries, shards};
+use crate::parts::Marks;
 use crate::spell::Shown;
-use block_records::entry::MasterBlock;
 use blocks_cache::cache::{Cache, ShardGroup};
 use std::fmt;
 
@@ -19,7 +18,7 @@ impl fmt::Display for Dump<'_> {
         for id in cache.data.ids.listed() {
             writeln!(f, "id {id}")?;
         }
-        for shard in shards(cache) {
+        for shard in cache.shards.listed() {
             let shard = Shard(shard);
             write!(f, "{shard}")?;
         }
@@ -34,15 +33,11 @@ struct Masters<'a>(&'a Cache);
 impl fmt::Display for Masters<'_> {
     fn fmt<W: fmt::Write>(&self, f: &mut fmt::Formatter<W>) -> fmt::Result {
         let masters = &self.0.masters;
-        let marks = Marks::of(&masters.group);
+        let marks = Marks::of(masters);
         let range = Shown(self.0.data.range.map(Shown));
         writeln!(f, "masters{marks} range={range}")?;
-        for (entry, tops) in entries(&masters.group).iter().zip(&masters.tops) {
-            let block = MasterBlock {
-                entry: *entry,
-                tops: *tops,
-            };
-            let block = Shown(&block);
+        for block in masters.entries.listed() {
+            let block = Shown(block);
             writeln!(f, "entry {block}")?;
         }
         Ok(())
@@ -57,7 +52,7 @@ impl fmt::Display for Shard<'_> {
         let ShardGroup { shard, group } = self.0;
         let marks = Marks::of(group);
         writeln!(f, "shard {shard}{marks}")?;
-        for entry in entries(group) {
+        for entry in group.entries.listed() {
             let entry = Shown(entry);
             writeln!(f, "entry {entry}")?;
         }

@@ -1,11 +1,9 @@
 // The cache as a graph for Graphviz: masters in bold, shards as boxes around their blocks; an edge to what is not cached is dotted, and one to a
 // block that names another master is dashed and red. A block is looked up by its id's key, as the calls do it.
-use crate::parts::{entries, shards};
 use block_records::block_id::BlockId;
-use block_records::entry::{BlockCacheEntry, held_received};
+use block_records::entry::{BlockCacheEntry, MasterBlock, held_received};
 use block_records::top_block::{TopBlock, TopBlocks};
 use blocks_cache::cache::{Cache, ShardGroup};
-use blocks_group::group::entry_at;
 use std::fmt;
 
 #[derive(Clone, Copy)]
@@ -18,12 +16,12 @@ impl fmt::Display for Graph<'_> {
             f,
             "digraph cache {{\n  rankdir=RL;\n  node [shape=box, style=dotted];"
         )?;
-        let masters = &cache.masters;
-        for (entry, tops) in entries(&masters.group).iter().zip(&masters.tops) {
+        for block in cache.masters.entries.listed() {
+            let MasterBlock { entry, tops } = block;
             let master = Master { cache, entry, tops };
             write!(f, "{master}")?;
         }
-        for shard in shards(cache) {
+        for shard in cache.shards.listed() {
             let shard = Cluster { cache, shard };
             write!(f, "{shard}")?;
         }
@@ -120,7 +118,7 @@ impl fmt::Display for Cluster<'_> {
             f,
             "  subgraph \"cluster_{shard}\" {{\n    label=\"shard {shard}\";"
         )?;
-        for entry in entries(group) {
+        for entry in group.entries.listed() {
             let node = Node {
                 entry,
                 style: "solid",
@@ -128,7 +126,7 @@ impl fmt::Display for Cluster<'_> {
             write!(f, "{node}")?;
         }
         writeln!(f, "  }}")?;
-        for entry in entries(group) {
+        for entry in group.entries.listed() {
             let parents = Parents {
                 cache: self.cache,
                 entry,
@@ -157,12 +155,9 @@ impl fmt::Display for Edge {
 
 // The shard block that is cached under an id's shard and seqno.
 fn cached_under(cache: &Cache, id: BlockId) -> Option<BlockCacheEntry> {
-    let held = shards(cache).iter().find(|held| held.shard == id.shard)?;
-    let at = entry_at(held.group, id.seqno);
-    if at.found.is_err() {
-        return None;
-    }
-    Some(at.entry)
+    let mut shards = cache.shards.listed().iter();
+    let held = shards.find(|held| held.shard == id.shard)?;
+    held.group.at(id.seqno)
 }
 
 // An edge to a shard block, seen from a master of a seqno.

@@ -1,13 +1,14 @@
 // The lines of a dump: each goes to the next free place of its list.
 use crate::commands::Dumped;
 use crate::expected::{Expected, Unexpected};
-use crate::parts::{Marks, Place, group_at};
+use crate::parts::{Marks, Place};
 use crate::scan::Scanner;
 use block_records::block_id::{BlockId, ShardIdent};
 use block_records::entry::MasterBlock;
-use block_records::limits::{ENTRIES_LIMIT, IDS_LIMIT, SHARDS_LIMIT};
+use block_records::limits::SHARDS_LIMIT;
+use block_records::listed::Listed;
 use blocks_cache::cache::{Cache, ShardGroup};
-use blocks_group::group::zero_group;
+use blocks_group::group::Group;
 
 // A line that stands for a record; an entry goes to the group of a place.
 pub fn load(
@@ -29,25 +30,30 @@ pub fn load(
     }
 }
 
+// The item in the next place of a list that has one.
+fn add<T: Copy, const N: usize>(list: &mut Listed<T, N>, item: T) {
+    let place = list.count;
+    if place < N {
+        list.items[place] = item;
+        list.count = place + 1;
+    }
+}
+
 fn load_masters(cache: &mut Cache, line: &mut Scanner<'_>) -> Result<(), Unexpected> {
     let marks: Marks = line.read()?;
     let range = line.field(" range=")?;
     line.end()?;
     cache.data.range = range;
-    marks.set(&mut cache.masters.group);
+    marks.set(&mut cache.masters);
     Ok(())
 }
 
 fn load_id(cache: &mut Cache, line: &mut Scanner<'_>) -> Result<(), Unexpected> {
     line.space()?;
     let id: BlockId = line.read()?;
-    let place = cache.data.ids.count;
-    if IDS_LIMIT <= place {
-        return Err(line.unexpected(Expected::Room));
-    }
+    line.check(cache.data.ids.has_place(), Expected::Room)?;
     line.end()?;
-    cache.data.ids.items[place] = id;
-    cache.data.ids.count = place + 1;
+    add(&mut cache.data.ids, id);
     Ok(())
 }
 
@@ -55,15 +61,11 @@ fn load_shard(cache: &mut Cache, line: &mut Scanner<'_>) -> Result<(), Unexpecte
     line.space()?;
     let shard: ShardIdent = line.read()?;
     let marks: Marks = line.read()?;
-    let place = cache.shard_count;
-    if SHARDS_LIMIT <= place {
-        return Err(line.unexpected(Expected::Room));
-    }
+    line.check(cache.shards.has_place(), Expected::Room)?;
     line.end()?;
-    let mut group = zero_group();
+    let mut group = Group::empty();
     marks.set(&mut group);
-    cache.shards[place] = ShardGroup { shard, group };
-    cache.shard_count = place + 1;
+    add(&mut cache.shards, ShardGroup { shard, group });
     Ok(())
 }
 
@@ -78,19 +80,23 @@ fn load_entry(
     let Some(place) = place else {
         return Err(line.unexpected(Expected::Masters));
     };
-    let count = group_at(cache, place).map_or(0, |group| group.count);
-    if ENTRIES_LIMIT <= count {
-        return Err(line.unexpected(Expected::Room));
-    }
-    let is_bare = block.tops.count == 0;
-    line.check(is_bare || place == Place::Masters, Expected::NoTops)?;
-    line.end()?;
-    if place == Place::Masters {
-        cache.masters.tops[count] = block.tops;
-    }
-    if let Some(group) = group_at(cache, place) {
-        group.entries[count] = block.entry;
-        group.count = count + 1;
+    match place {
+        Place::Masters => {
+            line.check(cache.masters.entries.has_place(), Expected::Room)?;
+            line.end()?;
+            add(&mut cache.masters.entries, block);
+        }
+        Place::Shard(at) if at < SHARDS_LIMIT => {
+            let entries = &mut cache.shards.items[at].group.entries;
+            line.check(entries.has_place(), Expected::Room)?;
+            line.check(block.tops.count == 0, Expected::NoTops)?;
+            line.end()?;
+            add(entries, block.entry);
+        }
+        Place::Shard(_) => {
+            line.check(block.tops.count == 0, Expected::NoTops)?;
+            line.end()?;
+        }
     }
     Ok(())
 }

@@ -3,9 +3,8 @@ use crate::expected::{Expected, Unexpected};
 use crate::scan::{Scanner, Spelled};
 use crate::spell::Shown;
 use block_records::block_id::BlockIdShort;
-use block_records::entry::BlockCacheEntry;
 use block_records::limits::SHARDS_LIMIT;
-use blocks_cache::cache::{Cache, ShardGroup, empty};
+use blocks_cache::cache::{Cache, empty};
 use blocks_group::group::Group;
 use std::fmt;
 
@@ -43,14 +42,18 @@ pub struct Marks {
 }
 
 impl Marks {
-    pub fn of(group: &Group) -> Self {
+    pub fn of<B>(group: &Group<B>) -> Self {
         Marks {
             mark: group.mark,
             boundary: group.boundary,
         }
     }
 
-    pub fn set(self, group: &mut Group) {
+    pub fn are_none(&self) -> bool {
+        self.mark.is_none() && self.boundary.is_none()
+    }
+
+    pub fn set<B>(self, group: &mut Group<B>) {
         group.mark = self.mark;
         group.boundary = self.boundary;
     }
@@ -74,30 +77,4 @@ impl fmt::Display for Marks {
 
 pub fn zero_cache() -> Cache {
     empty(0).cache
-}
-
-// The group of a place, if the cache has that place.
-pub fn group_at(cache: &mut Cache, place: Place) -> Option<&mut Group> {
-    match place {
-        Place::Masters => Some(&mut cache.masters.group),
-        Place::Shard(at) => {
-            if at < SHARDS_LIMIT {
-                return Some(&mut cache.shards[at].group);
-            }
-            None
-        }
-    }
-}
-
-// The listed entries of a group, of its masters or of a shard.
-pub fn entries(group: &Group) -> &[BlockCacheEntry] {
-    group.entries.get(..group.count).unwrap_or(&group.entries)
-}
-
-// The listed shards of a cache.
-pub fn shards(cache: &Cache) -> &[ShardGroup] {
-    cache
-        .shards
-        .get(..cache.shard_count)
-        .unwrap_or(&cache.shards)
 }

@@ -3,15 +3,15 @@ ghost use Rattle.std.specs.Prelude.{◌<◌, IfOk};
 
 use crate::commands::Raw;
 use crate::expected::{Expected, Unexpected};
-use crate::parts::{Marks, Place, group_at, zero_cache};
+use crate::parts::{Marks, Place, zero_cache};
 use crate::scan::Scanner;
 use crate::spell::{InPlaces, Shown};
 use block_records::block_id::{ShardIdent, is_zero_id, is_zero_shard, zero_shard};
-use block_records::entry::{BlockCacheEntry, is_zero_entry};
+use block_records::entry::{BlockCacheEntry, MasterBlock, is_zero_entry};
 use block_records::limits::{ARRAY_PLACES, ENTRIES_LIMIT, IDS_LIMIT, TOPS_LIMIT};
 use block_records::top_block::{TopBlocks, is_zero_tops};
-use blocks_cache::cache::Cache;
-use blocks_group::group::Group;
+use blocks_cache::cache::{Cache, ShardGroup};
+use blocks_group::group::MasterGroup;
 use std::fmt;
 
 // ===== setting records =====
@@ -41,7 +41,7 @@ fn set_head(cache: &mut Cache, line: &mut Scanner<'_>) -> Result<(), Unexpected>
     cache.zerostate_mc_seqno = zerostate;
     cache.data.range = range;
     cache.data.ids.count = ids;
-    cache.shard_count = shards;
+    cache.shards.count = shards;
     Ok(())
 }
 
@@ -79,14 +79,18 @@ fn set_group(cache: &mut Cache, line: &mut Scanner<'_>) -> Result<(), Unexpected
     let count = line.field(" count=")?;
     let marks: Marks = line.read()?;
     line.end()?;
-    if let Place::Shard(at) = place
-        && let Some(held) = cache.shards.get_mut(at)
-    {
-        held.shard = shard;
-    }
-    if let Some(group) = group_at(cache, place) {
-        group.count = count;
-        marks.set(group);
+    match place {
+        Place::Masters => {
+            cache.masters.entries.count = count;
+            marks.set(&mut cache.masters);
+        }
+        Place::Shard(at) => {
+            if let Some(held) = cache.shards.items.get_mut(at) {
+                held.shard = shard;
+                held.group.entries.count = count;
+                marks.set(&mut held.group);
+            }
+        }
     }
     Ok(())
 }
@@ -97,8 +101,13 @@ fn set_group_entry(cache: &mut Cache, line: &mut Scanner<'_>) -> Result<(), Unex
     line.space()?;
     let at = place(line, ENTRIES_LIMIT)?;
     let entry = line.only()?;
-    if let Some(group) = group_at(cache, group) {
-        group.entries[at] = entry;
+    match group {
+        Place::Masters => cache.masters.entries.items[at].entry = entry,
+        Place::Shard(shard) => {
+            if let Some(held) = cache.shards.items.get_mut(shard) {
+                held.group.entries.items[at] = entry;
+            }
+        }
     }
     Ok(())
 }
@@ -110,7 +119,7 @@ fn set_tops(cache: &mut Cache, line: &mut Scanner<'_>) -> Result<(), Unexpected>
     let listed: TopBlocks = line.field(" top=")?;
     line.check(listed.count == TOPS_LIMIT, Expected::EightTops)?;
     line.end()?;
-    cache.masters.tops[at] = TopBlocks { count, ..listed };
+    cache.masters.entries.items[at].tops = TopBlocks { count, ..listed };
     Ok(())
 }
 
@@ -138,7 +147,7 @@ impl fmt::Display for RawDump<'_> {
         let zerostate = cache.zerostate_mc_seqno;
         let range = Shown(cache.data.range.map(Shown));
         let ids = cache.data.ids.count;
-        let shards = cache.shard_count;
+        let shards = cache.shards.count;
         write!(f, "raw zero\nraw head zerostate={zerostate} range={range}")?;
         writeln!(f, " ids={ids} shards={shards}")?;
         for (place, id) in cache.data.ids.items.iter().enumerate() {
@@ -146,61 +155,110 @@ impl fmt::Display for RawDump<'_> {
                 writeln!(f, "raw id {place} {id}")?;
             }
         }
-        let masters = RawGroup {
-            place: Place::Masters,
-            shard: zero_shard(),
-            group: &cache.masters.group,
-        };
-        let tops = RawTops(&cache.masters.tops);
+        let masters = RawMasters(&cache.masters);
+        let tops = RawTops(&cache.masters.entries.items);
         write!(f, "{masters}{tops}")?;
-        for (place, held) in cache.shards.iter().enumerate() {
-            let shard = RawGroup {
-                place: Place::Shard(place),
-                shard: held.shard,
-                group: &held.group,
-            };
+        for (at, held) in cache.shards.items.iter().enumerate() {
+            let shard = RawShard { at, held };
             write!(f, "{shard}")?;
         }
         Ok(())
     }
 }
 
+// A group's own line, left out where it would say nothing.
 #[derive(Clone, Copy)]
-struct RawGroup<'a> {
+struct RawGroup {
     place: Place,
-    shard: ShardIdent,
-    group: &'a Group,
+    shard: Option<ShardIdent>,
+    count: usize,
+    marks: Marks,
 }
 
-impl RawGroup<'_> {
-    // Whether the group's own line would say nothing.
+impl RawGroup {
     fn is_bare(&self) -> bool {
-        let group = self.group;
-        is_zero_shard(self.shard)
-            && group.count == 0
-            && group.mark.is_none()
-            && group.boundary.is_none()
+        self.shard.is_none_or(is_zero_shard) && self.count == 0 && self.marks.are_none()
     }
 }
 
-impl fmt::Display for RawGroup<'_> {
+impl fmt::Display for RawGroup {
     fn fmt<W: fmt::Write>(&self, f: &mut fmt::Formatter<W>) -> fmt::Result {
-        let place = self.place;
-        if !self.is_bare() {
-            let shard = match place {
-                Place::Masters => None,
-                Place::Shard(_) => Some(self.shard),
-            };
-            let shard = Shown(shard);
-            let count = self.group.count;
-            let marks = Marks::of(self.group);
-            writeln!(f, "raw group {place} {shard} count={count}{marks}")?;
+        if self.is_bare() {
+            return Ok(());
         }
-        for (at, entry) in self.group.entries.iter().enumerate() {
-            if !is_zero_entry(*entry) {
-                let entry = InPlaces(entry);
-                writeln!(f, "raw entry {place} {at} {entry}")?;
-            }
+        let RawGroup {
+            place,
+            shard,
+            count,
+            marks,
+        } = *self;
+        let shard = Shown(shard);
+        writeln!(f, "raw group {place} {shard} count={count}{marks}")
+    }
+}
+
+// An entry in its place, left out where it is zero.
+#[derive(Clone, Copy)]
+struct RawEntry<'a> {
+    place: Place,
+    at: usize,
+    entry: &'a BlockCacheEntry,
+}
+
+impl fmt::Display for RawEntry<'_> {
+    fn fmt<W: fmt::Write>(&self, f: &mut fmt::Formatter<W>) -> fmt::Result {
+        let RawEntry { place, at, entry } = *self;
+        if is_zero_entry(*entry) {
+            return Ok(());
+        }
+        let entry = InPlaces(entry);
+        writeln!(f, "raw entry {place} {at} {entry}")
+    }
+}
+
+#[derive(Clone, Copy)]
+struct RawMasters<'a>(&'a MasterGroup);
+
+impl fmt::Display for RawMasters<'_> {
+    fn fmt<W: fmt::Write>(&self, f: &mut fmt::Formatter<W>) -> fmt::Result {
+        let group = self.0;
+        let place = Place::Masters;
+        let line = RawGroup {
+            place,
+            shard: None,
+            count: group.entries.count,
+            marks: Marks::of(group),
+        };
+        write!(f, "{line}")?;
+        for (at, block) in group.entries.items.iter().enumerate() {
+            let entry = &block.entry;
+            let entry = RawEntry { place, at, entry };
+            write!(f, "{entry}")?;
+        }
+        Ok(())
+    }
+}
+
+#[derive(Clone, Copy)]
+struct RawShard<'a> {
+    at: usize,
+    held: &'a ShardGroup,
+}
+
+impl fmt::Display for RawShard<'_> {
+    fn fmt<W: fmt::Write>(&self, f: &mut fmt::Formatter<W>) -> fmt::Result {
+        let group = &self.held.group;
+        let place = Place::Shard(self.at);
+        let line = RawGroup {
+            place,
+            shard: Some(self.held.shard),
+            count: group.entries.count,
+            marks: Marks::of(group),
+        };
+        write!(f, "{line}")?;
+        for (at, entry) in group.entries.items.iter().enumerate() {
+            let entry = RawEntry { place, at, entry };
+            write!(f, "{entry}")?;
         }
         Ok(())
     }
@@ -208,11 +266,12 @@ impl fmt::Display for RawGroup<'_> {
 
 // The top items beside the masters.
 #[derive(Clone, Copy)]
-struct RawTops<'a>(&'a [TopBlocks; ENTRIES_LIMIT]);
+struct RawTops<'a>(&'a [MasterBlock; ENTRIES_LIMIT]);
 
 impl fmt::Display for RawTops<'_> {
     fn fmt<W: fmt::Write>(&self, f: &mut fmt::Formatter<W>) -> fmt::Result {
-        for (place, tops) in self.0.iter().enumerate() {
+        for (place, block) in self.0.iter().enumerate() {
+            let tops = &block.tops;
             if !is_zero_tops(*tops) {
                 let count = tops.count;
                 let items = Shown(tops.items.as_slice());

@@ -160,7 +160,7 @@ impl<'a> Replay<'a> {
         let loaded = load(&mut self.cache, place, dumped, line);
         let place = match dumped {
             Dumped::Masters => Some(Place::Masters),
-            Dumped::Shard => match self.cache.shard_count.checked_sub(1) {
+            Dumped::Shard => match self.cache.shards.count.checked_sub(1) {
                 Some(last) => Some(Place::Shard(last)),
                 None => place,
             },

@@ -1,9 +1,7 @@
 // Ids in their order, each compared with each.
 use crate::records::block;
 use crate::tally::Tally;
-use block_records::block_id::{
-    BlockId, ShardIdent, id_shard, is_masterchain, less_id, less_shard, same_id, same_shard,
-};
+use block_records::block_id::{BlockId, ShardIdent, less_id, less_shard, same_id, same_shard};
 use std::array;
 
 // Zeros but for one byte.
@@ -85,15 +83,15 @@ fn sides(tally: &mut Tally) {
         (block(-2, 5), false),
     ];
     tally.each(&masterchain, |(id, expected)| {
-        is_masterchain(id_shard(*id)) == *expected
+        id.shard.is_masterchain() == *expected
     });
     let less = [(m, s, true), (s, m, false), (low, m, true), (s, top, true)];
     tally.each(&less, |(a, b, expected)| {
-        less_shard(id_shard(*a), id_shard(*b)) == *expected
+        less_shard(a.shard, b.shard) == *expected
     });
     let same = [(m, block(-1, 6), true), (m, low, false)];
     tally.each(&same, |(a, b, expected)| {
-        same_shard(id_shard(*a), id_shard(*b)) == *expected
+        same_shard(a.shard, b.shard) == *expected
     });
 }
 

@@ -1,7 +1,7 @@
 // Questions 2 to 4 at each limit and one past it: of candidates, received records, cached entries and keys.
 use crate::records::{block, no_candidate, no_received, prev, tops};
 use crate::tally::Tally;
-use block_records::block_id::{BlockId, key};
+use block_records::block_id::BlockId;
 use block_records::entry::{BlockCacheEntry, fresh_collated};
 use block_records::limits::KEYS_LIMIT;
 use block_records::questions::{
@@ -181,8 +181,8 @@ fn shard_entries(tally: &mut Tally) {
 
 // As many keys as the count says, the last place holding another.
 fn keys(seqno: u32, last: u32, count: usize) -> Keys {
-    let mut items = [key(block(0, seqno)); KEYS_LIMIT];
-    items[8] = key(block(-1, last));
+    let mut items = [block(0, seqno).as_short_id(); KEYS_LIMIT];
+    items[8] = block(-1, last).as_short_id();
     Keys { count, items }
 }
 

@@ -187,7 +187,7 @@ fn print_peek<W: fmt::Write>(f: &mut fmt::Formatter<W>, peek: &Peek) -> fmt::Res
     let missing = Shown(missing);
     write!(f, "found missing={missing}")?;
     print_row(f, "master", &peek.master)?;
-    for top in peek.tops.iter().take(peek.count) {
+    for top in peek.tops.listed() {
         print_row(f, "top", top)?;
     }
     Ok(())
@@ -222,7 +222,7 @@ impl fmt::Display for Tails<'_> {
         let rows = &self.0.tails;
         let count = rows.count;
         write!(f, "rows {count}")?;
-        for row in rows.rows.iter().take(count) {
+        for row in rows.listed() {
             print_tail(f, row)?;
         }
         Ok(())

@@ -9,7 +9,7 @@ use blocks_group::group::{Group, MasterGroup};
 use replay_text::dumped::{Dumped, Marks};
 use replay_text::raw::{GroupPlace, Raw, RawGroup};
 
-fn marks(group: &Group) -> Marks {
+fn marks<B>(group: &Group<B>) -> Marks {
     Marks {
         mark: group.mark,
         boundary: group.boundary,
@@ -17,13 +17,8 @@ fn marks(group: &Group) -> Marks {
 }
 
 fn dump_masters(state: &mut State<'_>, masters: &MasterGroup) {
-    let group = &masters.group;
-    let blocks = group.entries.iter().zip(masters.tops.iter());
-    for (entry, tops) in blocks.take(group.count) {
-        state.print(Dumped::Entry(MasterBlock {
-            entry: *entry,
-            tops: *tops,
-        }));
+    for block in masters.entries.listed() {
+        state.print(Dumped::Entry(*block));
     }
 }
 
@@ -40,7 +35,7 @@ fn dump_shard(state: &mut State<'_>, held: &ShardGroup) {
         shard,
         marks: marks(group),
     });
-    for entry in group.entries.iter().take(group.count) {
+    for entry in group.entries.listed() {
         state.print(Dumped::Entry(MasterBlock {
             entry: *entry,
             tops: zero_tops(),
@@ -51,12 +46,12 @@ fn dump_shard(state: &mut State<'_>, held: &ShardGroup) {
 pub fn dump(state: &mut State<'_>, cache: &Cache) {
     state.print(Dumped::Zerostate(cache.zerostate_mc_seqno));
     state.print(Dumped::Masters {
-        marks: marks(&cache.masters.group),
+        marks: marks(&cache.masters),
         range: cache.data.range,
     });
     dump_masters(state, &cache.masters);
     dump_ids(state, &cache.data);
-    for held in cache.shards.iter().take(cache.shard_count) {
+    for held in cache.shards.listed() {
         dump_shard(state, held);
     }
     state.print(Dumped::End);
@@ -72,40 +67,40 @@ fn dump_raw_ids(state: &mut State<'_>, data: &MasterData) {
     }
 }
 
-fn dump_raw_marks(state: &mut State<'_>, place: RawGroup, group: &Group) {
+fn dump_raw_marks<B>(state: &mut State<'_>, place: RawGroup, group: &Group<B>) {
     state.print(Raw::Group {
         group: place,
-        count: group.count,
+        count: group.entries.count,
         marks: marks(group),
     });
 }
 
 // Whether a group's own line would say nothing.
-fn is_bare(group: &Group) -> bool {
-    group.count == 0 && group.mark.is_none() && group.boundary.is_none()
+fn is_bare<B>(group: &Group<B>) -> bool {
+    group.entries.count == 0 && group.mark.is_none() && group.boundary.is_none()
 }
 
-fn dump_raw_entries(state: &mut State<'_>, group: GroupPlace, entries: &[BlockCacheEntry]) {
-    for (place, entry) in entries.iter().enumerate() {
-        if !is_zero_entry(*entry) {
-            state.print(Raw::Entry {
-                group,
-                place,
-                entry: *entry,
-            });
-        }
+fn dump_raw_entry(state: &mut State<'_>, group: GroupPlace, place: usize, entry: &BlockCacheEntry) {
+    if !is_zero_entry(*entry) {
+        state.print(Raw::Entry {
+            group,
+            place,
+            entry: *entry,
+        });
     }
 }
 
 fn dump_raw_masters(state: &mut State<'_>, masters: &MasterGroup) {
-    let group = &masters.group;
-    if !is_bare(group) {
-        dump_raw_marks(state, RawGroup::Masters, group);
+    if !is_bare(masters) {
+        dump_raw_marks(state, RawGroup::Masters, masters);
     }
-    dump_raw_entries(state, GroupPlace::Masters, &group.entries);
-    for (place, tops) in masters.tops.iter().enumerate() {
-        if !is_zero_tops(*tops) {
-            state.print(Raw::Tops { place, tops: *tops });
+    for (place, block) in masters.entries.items.iter().enumerate() {
+        dump_raw_entry(state, GroupPlace::Masters, place, &block.entry);
+    }
+    for (place, block) in masters.entries.items.iter().enumerate() {
+        let tops = block.tops;
+        if !is_zero_tops(tops) {
+            state.print(Raw::Tops { place, tops });
         }
     }
 }
@@ -116,7 +111,9 @@ fn dump_raw_shard(state: &mut State<'_>, place: usize, held: &ShardGroup) {
     if !is_zero_shard(shard) || !is_bare(group) {
         dump_raw_marks(state, RawGroup::Shard(place, shard), group);
     }
-    dump_raw_entries(state, GroupPlace::Shard(place), &group.entries);
+    for (at, entry) in group.entries.items.iter().enumerate() {
+        dump_raw_entry(state, GroupPlace::Shard(place), at, entry);
+    }
 }
 
 pub fn dump_raw(state: &mut State<'_>, cache: &Cache) {
@@ -125,11 +122,11 @@ pub fn dump_raw(state: &mut State<'_>, cache: &Cache) {
         zerostate: cache.zerostate_mc_seqno,
         range: cache.data.range,
         ids: cache.data.ids.count,
-        shards: cache.shard_count,
+        shards: cache.shards.count,
     });
     dump_raw_ids(state, &cache.data);
     dump_raw_masters(state, &cache.masters);
-    for (place, held) in cache.shards.iter().enumerate() {
+    for (place, held) in cache.shards.items.iter().enumerate() {
         dump_raw_shard(state, place, held);
     }
 }

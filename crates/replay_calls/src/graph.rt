@@ -3,7 +3,6 @@ use block_records::block_id::BlockId;
 use block_records::entry::{BlockCacheEntry, MasterBlock, held_received};
 use block_records::top_block::TopBlock;
 use blocks_cache::cache::{Cache, ShardGroup};
-use blocks_group::group::entry_at;
 use std::fmt;
 
 const HEAD: &str = "digraph cache {
@@ -62,10 +61,9 @@ impl fmt::Display for Edge {
 
 // The shard block that is cached under an id's shard and seqno.
 fn cached_under(cache: &Cache, id: BlockId) -> Option<BlockCacheEntry> {
-    for held in cache.shards.iter().take(cache.shard_count) {
+    for held in cache.shards.listed() {
         if held.shard == id.shard {
-            let cached = entry_at(held.group, id.seqno);
-            return cached.found.ok().map(|_| cached.entry);
+            return held.group.at(id.seqno);
         }
     }
     None
@@ -151,14 +149,8 @@ fn print_master<W: fmt::Write>(
 }
 
 fn print_masters<W: fmt::Write>(f: &mut fmt::Formatter<W>, cache: &Cache) -> fmt::Result {
-    let group = &cache.masters.group;
-    let blocks = group.entries.iter().zip(cache.masters.tops.iter());
-    for (entry, tops) in blocks.take(group.count) {
-        let block = MasterBlock {
-            entry: *entry,
-            tops: *tops,
-        };
-        print_master(f, cache, &block)?;
+    for block in cache.masters.entries.listed() {
+        print_master(f, cache, block)?;
     }
     Ok(())
 }
@@ -166,10 +158,9 @@ fn print_masters<W: fmt::Write>(f: &mut fmt::Formatter<W>, cache: &Cache) -> fmt
 fn print_nodes<W: fmt::Write>(
     f: &mut fmt::Formatter<W>,
     entries: &[BlockCacheEntry],
-    count: usize,
 ) -> fmt::Result {
     let style = "solid";
-    for entry in entries.iter().take(count) {
+    for entry in entries {
         let node = Node { entry, style };
         write!(f, "{node}")?;
     }
@@ -186,9 +177,9 @@ fn print_group<W: fmt::Write>(
     let group = &held.group;
     writeln!(f, "  subgraph \"cluster_{shard}\" {{")?;
     writeln!(f, "    label=\"shard {shard}\";")?;
-    print_nodes(f, &group.entries, group.count)?;
+    print_nodes(f, group.entries.listed())?;
     writeln!(f, "  }}")?;
-    for entry in group.entries.iter().take(group.count) {
+    for entry in group.entries.listed() {
         print_parents(f, cache, entry)?;
     }
     Ok(())
@@ -199,7 +190,7 @@ impl fmt::Display for Graph<'_> {
         let cache = self.0;
         f.write_str(HEAD)?;
         print_masters(f, cache)?;
-        for held in cache.shards.iter().take(cache.shard_count) {
+        for held in cache.shards.listed() {
             print_group(f, cache, held)?;
         }
         f.write_str("}")

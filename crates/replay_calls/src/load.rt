@@ -1,11 +1,11 @@
 // The lines of a load: each goes to the next free place of its list.
-use crate::raw::{set, set_marks, zero_cache};
+use crate::raw::{set_marks, zero_cache};
 use crate::state::State;
-use block_records::block_id::{BlockId, ShardIdent};
-use block_records::entry::{BlockCacheEntry, MasterBlock};
-use block_records::limits::{ENTRIES_LIMIT, IDS_LIMIT, SHARDS_LIMIT};
+use block_records::block_id::ShardIdent;
+use block_records::entry::MasterBlock;
+use block_records::listed::Listed;
 use blocks_cache::cache::{Cache, ShardGroup};
-use blocks_group::group::{Group, zero_group};
+use blocks_group::group::Group;
 use replay_text::dumped::{Dumped, Marks};
 use replay_text::raw::GroupPlace;
 use replay_text::unexpected::{Expected, Unexpected};
@@ -16,60 +16,36 @@ pub fn begin_load(state: &mut State<'_>, cache: &mut Cache) {
     state.begin_load();
 }
 
-// A shard's group, which the next entries go to.
-fn add_shard(cache: &mut Cache, shard: &ShardIdent, marks: &Marks) -> Result<GroupPlace, Expected> {
-    let place = cache.shard_count;
-    if SHARDS_LIMIT <= place {
+// The place that an item went to, the next one of its list.
+fn add<T: Copy, const N: usize>(list: &mut Listed<T, N>, item: T) -> Result<usize, Expected> {
+    let place = list.count;
+    if N <= place {
         return Err(Expected::Room);
     }
-    let mut group = zero_group();
-    set_marks(&mut group, marks);
-    cache.shards[place] = ShardGroup {
-        shard: *shard,
-        group,
-    };
-    cache.shard_count = place + 1;
-    Ok(GroupPlace::Shard(place))
-}
-
-fn add_id(cache: &mut Cache, id: &BlockId) -> Result<(), Expected> {
-    let place = cache.data.ids.count;
-    if IDS_LIMIT <= place {
-        return Err(Expected::Room);
-    }
-    cache.data.ids.items[place] = *id;
-    cache.data.ids.count = place + 1;
-    Ok(())
-}
-
-// The place that an entry went to.
-fn add_entry(group: &mut Group, entry: &BlockCacheEntry) -> Result<usize, Expected> {
-    let place = group.count;
-    if ENTRIES_LIMIT <= place {
-        return Err(Expected::Room);
-    }
-    group.entries[place] = *entry;
-    group.count = place + 1;
+    list.items[place] = item;
+    list.count = place + 1;
     Ok(place)
 }
 
-fn add_master(cache: &mut Cache, block: &MasterBlock) -> Result<(), Expected> {
-    let place = add_entry(&mut cache.masters.group, &block.entry)?;
-    set(&mut cache.masters.tops, place, &block.tops);
-    Ok(())
+// A shard's group, which the next entries go to.
+fn add_shard(cache: &mut Cache, shard: ShardIdent, marks: &Marks) -> Result<GroupPlace, Expected> {
+    let mut group = Group::empty();
+    set_marks(&mut group, marks);
+    let place = add(&mut cache.shards, ShardGroup { shard, group })?;
+    Ok(GroupPlace::Shard(place))
 }
 
 fn add_shard_block(cache: &mut Cache, shard: usize, block: &MasterBlock) -> Result<(), Expected> {
-    let Some(held) = cache.shards.get_mut(shard) else {
+    let Some(held) = cache.shards.items.get_mut(shard) else {
         return Err(Expected::NoShard);
     };
-    if ENTRIES_LIMIT <= held.group.count {
+    if !held.group.entries.has_place() {
         return Err(Expected::Room);
     }
     if block.tops.count != 0 {
         return Err(Expected::NoTops);
     }
-    add_entry(&mut held.group, &block.entry)?;
+    add(&mut held.group.entries, block.entry)?;
     Ok(())
 }
 
@@ -81,7 +57,10 @@ fn add_block(
 ) -> Result<(), Expected> {
     match group {
         None => Err(Expected::NoShard),
-        Some(GroupPlace::Masters) => add_master(cache, block),
+        Some(GroupPlace::Masters) => {
+            add(&mut cache.masters.entries, *block)?;
+            Ok(())
+        }
         Some(GroupPlace::Shard(shard)) => add_shard_block(cache, shard, block),
     }
 }
@@ -90,16 +69,18 @@ fn add_line(state: &mut State<'_>, cache: &mut Cache, line: &Dumped) -> Result<(
     match line {
         Dumped::Zerostate(seqno) => cache.zerostate_mc_seqno = *seqno,
         Dumped::Masters { marks, range } => {
-            set_marks(&mut cache.masters.group, marks);
+            set_marks(&mut cache.masters, marks);
             cache.data.range = *range;
             state.group = Some(GroupPlace::Masters);
         }
         Dumped::Shard { shard, marks } => {
-            let place = add_shard(cache, shard, marks)?;
+            let place = add_shard(cache, *shard, marks)?;
             state.group = Some(place);
         }
         Dumped::Entry(block) => add_block(cache, state.group, block)?,
-        Dumped::Id(id) => add_id(cache, id)?,
+        Dumped::Id(id) => {
+            add(&mut cache.data.ids, *id)?;
+        }
         Dumped::End => state.end_load(),
     }
     Ok(())

@@ -1,43 +1,28 @@
 // A record of the cache set as it stands, tested in no way.
-use block_records::block_id::{zero_id, zero_shard};
-use block_records::limits::SHARDS_LIMIT;
+use block_records::block_id::zero_id;
+use block_records::entry::BlockCacheEntry;
 use block_records::listed::Listed;
-use blocks_cache::cache::{Cache, ShardGroup};
+use block_records::top_block::TopBlocks;
+use blocks_cache::cache::{Cache, zero_shard_group};
 use blocks_cache::master_data::MasterData;
-use blocks_group::group::{Group, zero_group, zero_master_group};
+use blocks_group::group::Group;
 use replay_text::dumped::Marks;
 use replay_text::raw::{GroupPlace, Raw, RawGroup};
 
 pub fn zero_cache() -> Cache {
-    let held = ShardGroup {
-        shard: zero_shard(),
-        group: zero_group(),
-    };
     let data = MasterData {
         ids: Listed::empty(zero_id()),
         range: None,
     };
     Cache {
         zerostate_mc_seqno: 0,
-        masters: zero_master_group(),
+        masters: Group::empty(),
         data,
-        shards: [held; SHARDS_LIMIT],
-        shard_count: 0,
+        shards: Listed::empty(zero_shard_group()),
     }
 }
 
-// The group of a place, if there is one.
-pub fn group_at(cache: &mut Cache, place: GroupPlace) -> Option<&mut Group> {
-    match place {
-        GroupPlace::Masters => Some(&mut cache.masters.group),
-        GroupPlace::Shard(place) => {
-            let held = cache.shards.get_mut(place)?;
-            Some(&mut held.group)
-        }
-    }
-}
-
-pub fn set_marks(group: &mut Group, marks: &Marks) {
+pub fn set_marks<B>(group: &mut Group<B>, marks: &Marks) {
     group.mark = marks.mark;
     group.boundary = marks.boundary;
 }
@@ -52,16 +37,39 @@ pub fn set<T: Copy>(places: &mut [T], place: usize, element: &T) {
 fn set_group(cache: &mut Cache, group: &RawGroup, count: usize, marks: &Marks) {
     match *group {
         RawGroup::Masters => {
-            cache.masters.group.count = count;
-            set_marks(&mut cache.masters.group, marks);
+            cache.masters.entries.count = count;
+            set_marks(&mut cache.masters, marks);
         }
         RawGroup::Shard(place, shard) => {
-            if let Some(held) = cache.shards.get_mut(place) {
+            if let Some(held) = cache.shards.items.get_mut(place) {
                 held.shard = shard;
-                held.group.count = count;
+                held.group.entries.count = count;
                 set_marks(&mut held.group, marks);
             }
         }
+    }
+}
+
+// An entry in a place of its group; a master's top items stay.
+fn set_entry(cache: &mut Cache, group: GroupPlace, place: usize, entry: &BlockCacheEntry) {
+    match group {
+        GroupPlace::Masters => {
+            if let Some(block) = cache.masters.entries.items.get_mut(place) {
+                block.entry = *entry;
+            }
+        }
+        GroupPlace::Shard(shard) => {
+            if let Some(held) = cache.shards.items.get_mut(shard) {
+                set(&mut held.group.entries.items, place, entry);
+            }
+        }
+    }
+}
+
+// A master's top items in their place; its entry stays.
+fn set_tops(cache: &mut Cache, place: usize, tops: &TopBlocks) {
+    if let Some(block) = cache.masters.entries.items.get_mut(place) {
+        block.tops = *tops;
     }
 }
 
@@ -78,7 +86,7 @@ pub fn set_raw(cache: &mut Cache, raw: &Raw) {
             cache.zerostate_mc_seqno = *zerostate;
             cache.data.range = *range;
             cache.data.ids.count = *ids;
-            cache.shard_count = *shards;
+            cache.shards.count = *shards;
         }
         Raw::Id { place, id } => set(&mut cache.data.ids.items, *place, id),
         Raw::Group {
@@ -90,12 +98,8 @@ pub fn set_raw(cache: &mut Cache, raw: &Raw) {
             group,
             place,
             entry,
-        } => {
-            if let Some(group) = group_at(cache, *group) {
-                set(&mut group.entries, *place, entry);
-            }
-        }
-        Raw::Tops { place, tops } => set(&mut cache.masters.tops, *place, tops),
+        } => set_entry(cache, *group, *place, entry),
+        Raw::Tops { place, tops } => set_tops(cache, *place, tops),
         Raw::Slice { .. } => {}
     }
 }

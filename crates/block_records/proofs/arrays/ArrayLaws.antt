@@ -3,18 +3,17 @@
 use Rattle.std.specs.List.{list_all}
 use Rattle.std.specs.Prelude.{map, cond, filter}
 use mathlib.Core.Bool.{Bool, false, true}
-use mathlib.Core.List.{List, [], ◌++◌, ◌∷◌, append_assoc, append-nil}
-use mathlib.Core.Path.{◌∙◌, ◌≡◌, ap, refl, subst, sym}
+use mathlib.Core.List.{List, [], ◌++◌, ◌∷◌, append_assoc}
+use mathlib.Core.Path.{◌∙◌, ◌≡◌, ap, refl, sym}
 use Prim.Native.Nat.{◌+◌, ◌-◌, ◌<◌, ◌≤◌, suc, zero, ℕ}
 use native.Mathlib.Nat.{le_refl}
 use native.Mathlib.Numerals.{add-one}
 use native.Mathlib.Omega.{arith}
 use borrow.Author.Tests.{ltb-false, ltb-true}
 use lib.Dec.{ltb}
-use lib.ListN.{get_or-append, drop, get_or, length, length-append, length-drop, length-replicate, replicate, set, take}
-use lib.Seq.{get_or-append-add, get_or_at, get_or-drop, get_or-take, length-take-le, take_all, take_at}
-use Rattle.block_records.proofs.arrays.LoopLaws.{padded_nil, set_padded, take_more}
-use Rattle.block_records.proofs.rules.ListLaws.{length_each}
+use lib.ListN.{get_or, length, length-append, length-drop, length-replicate, replicate, set, take}
+use lib.Seq.{length-take-le, take_all, take_at}
+use Rattle.block_records.proofs.arrays.LoopLaws.{set_padded, take_more}
 use Rattle.block_records.proofs.rules.Tests.{and_left, and_right, on}
 use Rattle.block_records.specs.arrays.Arrays.{Splices, flagged, spliced}
 use Rattle.block_records.specs.rules.Lists.{padded, put}
@@ -38,24 +37,12 @@ module _ {A : Type 0} where
 
   -- ===== the first places =====
 
-  -- a count past the places is the number of places
-  pub take_within : (size n : ℕ) (xs : List A) → length xs ≡ size → take (cond (ltb n size) n size) xs ≡ take n xs
-  take_within size n xs l =
-      on (ltb n size) (λ t. rw t)
-      (λ t. rw t (let m = ltb-false n size t in take_all size xs (omega arith) ∙ sym (take_all n xs (omega arith))))
-
   -- the first n elements are n, or all
   pub length_within : (size n : ℕ) (xs : List A) → length xs ≡ size → length (take n xs) ≡ cond (ltb n size) n size
   length_within size n xs l =
       on (ltb n size)
       (λ t. rw t (let m = ltb-true n size t in length-take-le n xs (omega arith)))
       (λ t. rw t (let m = ltb-false n size t in ap length (take_all n xs (omega arith)) ∙ l))
-
-  -- the first n elements are no more than n ..
-  pub take_length_count : (n : ℕ) (xs : List A) → length (take n xs) ≤ n
-  take_length_count zero xs = le_refl 0
-  take_length_count (suc n) [] = omega arith
-  take_length_count (suc n) (x ∷ xs) = let ih = take_length_count n xs in omega arith
 
   -- .. and no more than all
   pub length_take_few : (n : ℕ) (xs : List A) → length (take n xs) ≤ length xs
@@ -95,11 +82,6 @@ module _ {A : Type 0} where
   unfolding padded
   take_padded_at n z xs k e = take_at xs (replicate (n - length xs) z) k e
 
-  -- an array that is full has no place left
-  pub padded_full : (n : ℕ) (z : A) (xs : List A) → n ≤ length xs → padded n z xs ≡ xs
-  unfolding padded
-  padded_full n z xs h = let k : n - length xs ≡ 0 = omega arith in rw k (append-nil xs)
-
   -- ===== a loop that fills an array from the front with the list t, at place i =====
 
   -- one turn
@@ -114,24 +96,6 @@ module _ {A : Type 0} where
 
 -- ===== a loop that copies the first elements of an array of n, at place i =====
 
-module _ {A : Type 0} (n : ℕ) (z : A) (l : List A) (len : length l ≡ n) (out : List A) (i : ℕ) (e : out ≡ padded n z (take i l)) where
-  -- one turn
-  pub copy_next : (d : A) → i < n → set out i (get_or l i d) ≡ padded n z (take (i + 1) l)
-  copy_next d h = fill_next n z l out i (get_or l i d) d e refl (omega arith) (omega arith)
-
-  -- up to the count
-  pub copy_count : (count : ℕ) → i ≤ n → i ≤ count → count ≤ i → (out ≡ padded n z (take count l)) × (i ≡ length (take count l))
-  copy_count count h k m =
-      let q : i ≡ count = omega arith in
-      (e ∙ ap (λ (j : ℕ). padded n z (take j l)) q, q ∙ sym (length-take-le count l (omega arith)))
-
-  -- up to the end
-  pub copy_end : (count : ℕ) → n ≤ i → i ≤ count → (out ≡ padded n z (take count l)) × (n ≡ length (take count l))
-  copy_end count h k =
-      let a : take i l ≡ l = take_all i l (omega arith) in
-      let b : take count l ≡ l = take_all count l (omega arith) in
-      (e ∙ ap (padded n z) (a ∙ sym b), sym (ap length b ∙ len))
-
 module _ {A B : Type 0} where
   -- what stands at a place of the images
   pub getD_each : (f : A → B) (xs : List A) (i : ℕ) (d : A) → get_or (map f xs) i (f d) ≡ f (get_or xs i d)
@@ -139,44 +103,12 @@ module _ {A B : Type 0} where
   getD_each f (x ∷ xs) zero d = refl
   getD_each f (x ∷ xs) (suc i) d = getD_each f xs i d
 
-  -- as many images as elements taken
-  pub length_each_take : (f : A → B) (k : ℕ) (xs : List A) → k ≤ length xs → length (map f (take k xs)) ≡ k
-  length_each_take f k xs l = length_each f (take k xs) ∙ length-take-le k xs l
-
-  -- ===== a loop that fills an array with f of the first k elements of xs, at place i =====
-
-  module _ (f : A → B) (n : ℕ) (z : B) (k : ℕ) (xs : List A) (out : List B) (i : ℕ) (l : k ≤ length xs) (b : k ≤ n) (o : out ≡ padded n z (take i (map f (take k xs)))) where
-    -- one turn
-    pub each_next : (v : B) (d : A) → v ≡ f (get_or xs i d) → i < k → set out i v ≡ padded n z (take (i + 1) (map f (take k xs)))
-    each_next v d e h =
-        let m = length_each_take f k xs l in
-        fill_next n z (map f (take k xs)) out i v (f d) o (e ∙ sym (getD_each f (take k xs) i d ∙ ap f (get_or-take k xs i d h))) (omega arith) (omega arith)
-
-    -- the loop ends
-    pub each_end : k ≤ i → out ≡ padded n z (map f (take k xs))
-    each_end h = let m = length_each_take f k xs l in fill_end n z (map f (take k xs)) out i o (omega arith)
-
 -- ===== one element for those from place `at` up to `from` =====
 
 module _ {A : Type 0} (at from : ℕ) (a : A) (xs : List A) (p : at ≤ from) (q : from ≤ length xs) where
   -- how many they are then
   pub length_spliced : length (spliced at from a xs) ≡ at + 1 + (length xs - from)
   length_spliced = simp (length-append, length-drop, length-take-le at xs (omega arith)) (omega arith)
-
-  -- what stands before the place, at it, and after it
-  spliced_before : (j : ℕ) (d : A) → j < at → get_or (spliced at from a xs) j d ≡ get_or xs j d
-  spliced_before j d h =
-      let l = length-take-le at xs (omega arith) in
-      get_or-append (take at xs) (a ∷ drop from xs) d j (omega arith) ∙ get_or-take at xs j d h
-
-  spliced_here : (d : A) → get_or (spliced at from a xs) at d ≡ a
-  spliced_here d = get_or_at (take at xs) a (drop from xs) d at (length-take-le at xs (omega arith))
-
-  spliced_after : (j : ℕ) (d : A) → at < j → get_or (spliced at from a xs) j d ≡ get_or xs (from + (j - at - 1)) d
-  spliced_after j d h =
-      let l : length (take at xs) ≡ at = length-take-le at xs (omega arith) in
-      let e : j ≡ length (take at xs) + suc (j - at - 1) = omega arith in
-      ap (λ (i : ℕ). get_or (spliced at from a xs) i d) e ∙ get_or-append-add (take at xs) (a ∷ drop from xs) (suc (j - at - 1)) d ∙ get_or-drop from xs (j - at - 1) d
 
 -- where a loop stands that fills an array with the first k of l so changed, n elements in all, at place j
 pub record Splicing {A : Type 0} (size : ℕ) (z : A) (at from : ℕ) (a : A) (l : List A) (k n j : ℕ) (out : List A) : Type 0 where
@@ -192,57 +124,6 @@ module _ {A : Type 0} (size : ℕ) (z : A) (at from : ℕ) (a : A) (l : List A) 
 
   within : from ≤ length (take k l)
   within = omega (arith, listed, s.split.within)
-
-  spliced_total : length (spliced at from a (take k l)) ≡ n
-  spliced_total = length_spliced at from a (take k l) s.split.order within ∙ ap (λ (i : ℕ). at + 1 + (i - from)) listed ∙ sym s.whole
-
-  turn : (v d : A) → v ≡ get_or (spliced at from a (take k l)) j d → j < n → Splicing size z at from a l k n (j + 1) (set out j v)
-  turn v d e h =
-      let m = spliced_total in
-      let r = s.split.room in
-      let w = s.whole in
-      record {
-        few = s.few;
-        split = s.split;
-        whole = w;
-        bound = omega arith;
-        places = fill_next size z (spliced at from a (take k l)) out j v d s.places e (omega arith) (omega arith);
-      }
-
-  -- one turn before the place, at it, and after it
-  pub splice_before : (d : A) → j < at → j < n → Splicing size z at from a l k n (j + 1) (set out j (get_or l j d))
-  splice_before d h b =
-      let p = s.split in
-      turn (get_or l j d) d (sym (spliced_before at from a (take k l) p.order within j d h ∙ get_or-take k l j d (omega arith))) b
-
-  pub splice_here : j ≡ at → j < n → Splicing size z at from a l k n (j + 1) (set out j a)
-  splice_here e b =
-      turn a a (sym (ap (λ (i : ℕ). get_or (spliced at from a (take k l)) i a) e ∙ spliced_here at from a (take k l) s.split.order within a)) b
-
-  pub splice_after : (d : A) → at ≤ j → (j ≡ at → ⊥) → j < n → Splicing size z at from a l k n (j + 1) (set out j (get_or l (from + (j - at - 1)) d))
-  splice_after d h e b =
-      let w = s.whole in
-      turn (get_or l (from + (j - at - 1)) d) d
-      (sym (spliced_after at from a (take k l) s.split.order within j d (omega arith) ∙ get_or-take k l (from + (j - at - 1)) d (omega arith))) b
-
-  -- the loop ends
-  pub splice_end : n ≤ j → (n ≡ length (spliced at from a (take k l))) × (out ≡ padded size z (spliced at from a (take k l)))
-  splice_end h = let m = spliced_total in (sym m, fill_end size z (spliced at from a (take k l)) out j s.places (omega arith))
-
--- the loop begins; c is the count, of which k are listed
-module _ {A : Type 0} (size : ℕ) (z : A) (at from : ℕ) (a : A) (l : List A) (c : ℕ) (p : Splices size at from (length (take c l))) (long : length l ≡ size) where
-  pub splices_listed : Splices size at from (cond (ltb c size) c size)
-  splices_listed = subst (Splices size at from) (length_within size c l long) p
-
-  pub splice_start : (k : ℕ) → k ≡ cond (ltb c size) c size → Splicing size z at from a l k (at + 1 + (k - from)) 0 (replicate size z)
-  splice_start k e =
-      record {
-        few = rw e (within_few size c);
-        split = rw e splices_listed;
-        whole = refl;
-        bound = omega arith;
-        places = sym (padded_nil size z);
-      }
 
 -- ===== a loop that moves the flagged elements together: after the first i of xs, n are in `out` =====
 
@@ -273,10 +154,6 @@ module _ {A : Type 0} where
     pub count : n ≡ length (flagged (take i ks) (take i xs))
     pub places : out ≡ padded size z (flagged (take i ks) (take i xs))
 
-  -- it begins with z in every place
-  pub compact_start : (size : ℕ) (z y : A) (ks : List Bool) (xs : List A) → y ≡ z → Compacted size z ks xs 0 0 (replicate size y)
-  compact_start size z y ks xs e = record { few = le_refl 0; count = refl; places = rw e (sym (padded_nil size z)) }
-
   module _ (size : ℕ) (z : A) (ks : List Bool) (xs : List A) (i n : ℕ) (out : List A) (c : Compacted size z ks xs i n out) where
     -- one turn, at an element that is flagged
     pub compact_yes : (k : Bool) (d : A) → get_or ks i k ≡ true → i < length ks → i < length xs → i < size → Compacted size z ks xs (i + 1) (n + 1) (set out n (get_or xs i d))
@@ -300,50 +177,12 @@ module _ {A : Type 0} where
     pub compact_end : length ks ≤ i → length xs ≤ i → (n ≡ length (flagged ks xs)) × (out ≡ padded size z (flagged ks xs))
     compact_end h l = (rw (take_all i ks h, take_all i xs l) at c.count, rw (take_all i ks h, take_all i xs l) at c.places)
 
--- ===== flags made by a test =====
-
-module _ {A : Type 0} where
-  flagged_none : (m : ℕ) (xs : List A) → flagged (replicate m false) xs ≡ []
-  flagged_none zero xs = refl
-  flagged_none (suc m) [] = refl
-  flagged_none (suc m) (x ∷ xs) = flagged_none m xs
-
-  flagged_append : (ks : List Bool) (m : ℕ) (xs : List A) → flagged (ks ++ replicate m false) xs ≡ flagged ks xs
-  flagged_append [] m xs = flagged_none m xs
-  flagged_append (k ∷ ks) m [] = refl
-  flagged_append (k ∷ ks) m (x ∷ xs) = rw (flagged_append ks m xs)
-
-  -- flags past those of the list are not set
-  pub flagged_padded : (n : ℕ) (ks : List Bool) (xs : List A) → flagged (padded n false ks) xs ≡ flagged ks xs
-  unfolding padded
-  flagged_padded n ks xs = flagged_append ks (n - length ks) xs
-
-  -- flags by a test of the first c: those that pass
-  pub flagged_select : (p : A → Bool) (c : ℕ) (xs : List A) → flagged (map p (take c xs)) xs ≡ filter p (take c xs)
-  flagged_select p zero xs = refl
-  flagged_select p (suc c) [] = refl
-  flagged_select p (suc c) (x ∷ xs) = rw (flagged_select p c xs)
-
 -- ===== `each` of a list so changed =====
 
 module _ {A B : Type 0} (f : A → B) where
   pub each_append : (xs ys : List A) → map f (xs ++ ys) ≡ map f xs ++ map f ys
   each_append [] ys = refl
   each_append (x ∷ xs) ys = ap (λ (r : List B). f x ∷ r) (each_append xs ys)
-
-  pub each_take : (n : ℕ) (xs : List A) → map f (take n xs) ≡ take n (map f xs)
-  each_take zero xs = refl
-  each_take (suc n) [] = refl
-  each_take (suc n) (x ∷ xs) = ap (λ (r : List B). f x ∷ r) (each_take n xs)
-
-  each_drop : (n : ℕ) (xs : List A) → map f (drop n xs) ≡ drop n (map f xs)
-  each_drop zero xs = refl
-  each_drop (suc n) [] = refl
-  each_drop (suc n) (x ∷ xs) = each_drop n xs
-
-  -- the images of a list with one element put in
-  pub each_spliced : (at from : ℕ) (a : A) (xs : List A) → map f (spliced at from a xs) ≡ spliced at from (f a) (map f xs)
-  each_spliced at from a xs = each_append (take at xs) (a ∷ drop from xs) ∙ rw (each_take at xs, each_drop from xs)
 
   -- an order of the images that says what an order of the elements says
   pub each_put : (lt : A → A → Bool) (lt' : B → B → Bool) → ((x y : A) → lt' (f x) (f y) ≡ lt x y) → (a : A) (xs : List A) →

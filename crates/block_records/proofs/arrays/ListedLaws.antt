@@ -3,16 +3,21 @@
 use Prim.Native.Nat.{zero}
 use Rattle.block_records.proofs.rules.ListLaws.{Order}
 use Rattle.block_records.proofs.arrays.ScanLaws.{neighbours, rising_neighbours}
-use Rattle.block_records.proofs.rules.Tests.{on}
-use Rattle.std.specs.List.{list_any, find, IsAllAdjacentAnswer}
-use Rattle.std.specs.Prelude.{suc, get_or, Result, Ok, Err, ◌<◌, take, ◌-◌, ◌+◌, ◌≤◌, ◌∷◌, List, [], ◌++◌, ◌≡◌, ℕ, drop, length, replicate, Bool, is_some, slice_get, true, false, slice_index_or}
+use Rattle.block_records.proofs.rules.Tests.{absurd_eq, on}
+use Rattle.std.specs.List.{AllWithin, HoldsAt, list_any, find, IsAllAdjacentAnswer}
+use Rattle.std.specs.Option.{MatchOption}
+use Rattle.std.specs.Prelude.{suc, get_or, Result, Ok, Err, ◌<◌, take, ◌-◌, ◌+◌, ◌≤◌, ◌∷◌, List, [], ◌++◌, ◌≡◌, ℕ, drop, length, replicate, Bool, is_some, slice_get, Option, option_map, None, Some, true, false, not, slice_index_or}
 use Rattle.std.proofs.lemmas.List.{drop-replicate, drop_all}
 use native.Mathlib.Nat.{sub-zero}
 use mathlib.Core.List.{append_assoc}
-use Rattle.std.specs.Ordering.{is_eq, is_lt}
+use Rattle.std.specs.Ordering.{is_eq, is_gt, is_lt, nat_cmp}
+use lib.Dec.{ltb}
+use Rattle.block_records.proofs.rules.BlockIdLaws.{nat_gt_is, nat_lt_is}
 use Rattle.std.specs.declared.cmp.Ordering.{Ordering}
 use Rattle.std.specs.declared.cmp.Ordering.TheVariants.{Less, Equal, Greater}
-use Rattle.block_records.specs.arrays.Place.{place_from}
+use Rattle.block_records.specs.arrays.Place.{place, place_from}
+use Rattle.block_records.proofs.arrays.ArrayLaws.{length_within, within_few}
+use Rattle.block_records.proofs.arrays.PlaceLaws.{inserted_few, inserted_many, put_inserts, put_replaces, replaced_few}
 use mathlib.Core.Path.{ap, sym, ◌∙◌, refl}
 use native.Mathlib.Omega.{arith}
 use lib.ListN.{length-append}
@@ -20,7 +25,7 @@ use lib.Seq.{drop-cons, length-take-le}
 use native.Mathlib.Numerals.{add-one}
 use Rattle.block_records.specs.arrays.Arrays.{spliced}
 use Rattle.block_records.specs.declared.listed.Listed.{Listed}
-use Rattle.block_records.specs.layout.Listed.{packed}
+use Rattle.block_records.specs.layout.Listed.{Compares, listed, packed, put_listed}
 use Rattle.block_records.specs.rules.Lists.{padded, last, rising}
 
 module _ {A : Type 0} where
@@ -87,6 +92,23 @@ last_item [] = refl
 last_item (x ∷ []) = refl
 last_item (x ∷ y ∷ ys) = let e : suc (suc (length ys)) - 1 ≡ suc (suc (length ys) - 1) = omega arith in rw e (last_item (y ∷ ys))
 
+-- the first that passes is the one that is found
+module _ {A : Type 0} (p : A → Bool) where
+  found_none : (xs : List A) → AllWithin (λ (x : A). p x ≡ false) xs 0 (length xs) → None ≡ find p xs
+  found_none [] h = refl
+  found_none (x ∷ xs) h = rw (h 0 x (omega arith) (omega arith)) (found_none xs (λ k d l m. h (suc k) d (omega arith) (omega arith)))
+
+  found_some : (xs : List A) (a : A) → p a ≡ true → (i : ℕ) → i < length xs → HoldsAt (λ (y : A). y ≡ a) xs i → AllWithin (λ (x : A). p x ≡ false) xs 0 i → Some a ≡ find p xs
+  found_some [] a t i l h w = absurd (omega arith)
+  found_some (x ∷ xs) a t zero l h w = let e : x ≡ a = h x in rw (ap p e ∙ t) (ap Some (sym e))
+  found_some (x ∷ xs) a t (suc i) l h w = rw (w 0 x (omega arith) (omega arith)) (found_some xs a t i (omega arith) h (λ k d m n. w (suc k) d (omega arith) (omega arith)))
+
+  pub first_found : {C : Type 0} (v : C → A) (xs : List A) (r : Option C) →
+      MatchOption r (AllWithin (λ (x : A). p x ≡ false) xs 0 (length xs)) (λ x. (p (v x) ≡ true) × (i : ℕ) × (i < length xs) × HoldsAt (λ (y : A). y ≡ v x) xs i × AllWithin (λ (x : A). p x ≡ false) xs 0 i) →
+      option_map v r ≡ find p xs
+  first_found v xs None h = found_none xs h
+  first_found v xs (Some x) h = found_some xs (v x) h.0 h.1 h.2 h.3 h.4
+
 -- each item comes before the next one: the list rises, where the order is transitive
 module _ {A : Type 0} (lt : A → A → Bool) where
   holds : (xs : List A) → ((k : ℕ) (d : A) → k + 1 < length xs → true ≡ lt (slice_index_or xs k d) (slice_index_or xs (k + 1) d)) → true ≡ neighbours lt xs
@@ -112,3 +134,52 @@ module _ {A : Type 0} (lt : A → A → Bool) where
 
   pub sorted_rises : Order lt → (xs : List A) (r : Bool) → IsAllAdjacentAnswer (λ x y b. b ≡ lt x y) xs r → r ≡ rising lt xs
   sorted_rises o xs r h = adjacent xs r h ∙ sym (rising_neighbours lt o xs)
+
+-- ===== an item put by what comparing it tells =====
+
+lt_not_gt : (o : Ordering) → is_lt o ≡ true → is_gt o ≡ false
+lt_not_gt Less h = refl
+lt_not_gt Equal h = refl
+lt_not_gt Greater h = absurd_eq h
+
+eq_not_gt : (o : Ordering) → is_lt o ≡ false → is_eq o ≡ not (is_gt o)
+eq_not_gt Less h = absurd_eq (sym h)
+eq_not_gt Equal h = refl
+eq_not_gt Greater h = refl
+
+module _ {A : Type 0} (size : ℕ) (z : A) (lt : A → A → Bool) (a : A) (cmp : A → Ordering) (c : Compares lt a cmp) where
+  abbrev level_with : A → Bool
+  level_with x = is_eq (cmp x)
+
+  compared_once : (x : A) → lt x a ≡ true → lt a x ≡ false
+  compared_once x t = c.above x ∙ lt_not_gt (cmp x) (sym (c.below x) ∙ t)
+
+  compared_level : (x : A) → lt x a ≡ false → level_with x ≡ not (lt a x)
+  compared_level x t = eq_not_gt (cmp x) (sym (c.below x) ∙ t) ∙ ap not (sym (c.above x))
+
+  module _ (l : Listed A size) (long : length l.items ≡ size) where
+    few : length (listed l) ≤ size
+    few = rw (length_within size l.count l.items long) (within_few size l.count)
+
+    place_is : (p : Result ℕ ℕ) → p ≡ place (λ (x : A). is_lt (cmp x)) level_with (listed l) → place (λ (x : A). lt x a) level_with (listed l) ≡ p
+    place_is p e = (λ i. place (λ (x : A). c.below x i) level_with (listed l)) ∙ sym e
+
+    module _ (k : ℕ) where
+      pub put_in_place : k < length (listed l) → Ok k ≡ place (λ (x : A). is_lt (cmp x)) level_with (listed l) → packed size z (spliced k (k + 1) a (listed l)) ≡ put_listed size z lt a l
+      put_in_place h e =
+          let p = put_replaces lt a level_with compared_once compared_level (listed l) k (place_is (Ok k) e) in
+          rw (p, replaced_few size a (listed l) few k h)
+
+      pub put_between : k ≤ length (listed l) → length (listed l) < size → Err k ≡ place (λ (x : A). is_lt (cmp x)) level_with (listed l) → packed size z (spliced k k a (listed l)) ≡ put_listed size z lt a l
+      put_between h r e =
+          let p = put_inserts lt a level_with compared_once compared_level (listed l) k (place_is (Err k) e) in
+          rw (p, inserted_few size a (listed l) few k h r)
+
+      pub put_nowhere : k ≤ length (listed l) → size ≤ length (listed l) → Err k ≡ place (λ (x : A). is_lt (cmp x)) level_with (listed l) → l ≡ put_listed size z lt a l
+      put_nowhere h r e =
+          let p = put_inserts lt a level_with compared_once compared_level (listed l) k (place_is (Err k) e) in
+          rw (p, inserted_many size a (listed l) few k h r)
+
+-- comparing by a number tells the order by that number
+pub compares_by : {A : Type 0} (f : A → ℕ) (a : A) → Compares (λ (x y : A). ltb (f x) (f y)) a (λ (x : A). nat_cmp (f x) (f a))
+compares_by f a = record { below = λ x. sym (nat_lt_is (f x) (f a)); above = λ x. sym (nat_gt_is (f x) (f a)) }

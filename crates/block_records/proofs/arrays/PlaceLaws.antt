@@ -10,34 +10,13 @@ use native.Mathlib.Numerals.{add-one}
 use native.Mathlib.Omega.{arith}
 use borrow.Author.Tests.{le-leb, lt-leb}
 use lib.Dec.{leb}
-use lib.ListN.{get_or, length, take}
+use lib.ListN.{get_or, length}
 use Rattle.block_records.proofs.arrays.ArrayLaws.{length_spliced}
-use Rattle.block_records.proofs.arrays.LoopLaws.{left, left_more, left_passed, left_start}
 use Rattle.block_records.proofs.rules.ListLaws.{every_weaken}
 use Rattle.block_records.proofs.rules.Tests.{and_left, and_right, not_true, on}
 use Rattle.block_records.specs.arrays.Arrays.{Splices, spliced}
-use Rattle.block_records.specs.arrays.Place.{place, place_from}
+use Rattle.block_records.specs.arrays.Place.{IsWithin, place, place_from}
 use Rattle.block_records.specs.rules.Lists.{put, rising}
-
--- ===== one turn of a search, at place i of the first `count` =====
-
-module _ {A : Type 0} (below same : A → Bool) (d : A) (l : List A) (count i : ℕ) where
-  pub place_next : i < length l → i < count → below (get_or l i d) ≡ true →
-      place_from below same i (left l count i) ≡ place_from below same (i + 1) (left l count (i + 1))
-  place_next h k e = rw (left_more l count i d h k, e, add-one)
-
-  pub place_found : i < length l → i < count → below (get_or l i d) ≡ false → same (get_or l i d) ≡ true → place_from below same i (left l count i) ≡ Ok i
-  place_found h k e f = rw (left_more l count i d h k, e, f)
-
-  pub place_gap : i < length l → i < count → below (get_or l i d) ≡ false → same (get_or l i d) ≡ false → place_from below same i (left l count i) ≡ Err i
-  place_gap h k e f = rw (left_more l count i d h k, e, f)
-
-  pub place_passed : count ≤ i → place_from below same i (left l count i) ≡ Err i
-  place_passed h = rw (left_passed l count i h)
-
-pub place_start : {A : Type 0} (below same : A → Bool) (l : List A) (count : ℕ) → place below same (take count l) ≡ place_from below same 0 (left l count 0)
-unfolding place
-place_start below same l count = rw (left_start l count)
 
 -- ===== the place by the list's first element =====
 
@@ -57,15 +36,11 @@ unfolding place
 place_cons below same x xs = rw (place_further below same 0 xs)
 
 -- a place of a list of n elements
-abbrev Within : ℕ → (Result ℕ ℕ) → Type 0
-Within n (Ok k) = k < n
-Within n (Err k) = k ≤ n
-
-within_next : (n : ℕ) (f : (Result ℕ ℕ)) → Within n f → Within (suc n) (next_place f)
+within_next : (n : ℕ) (f : (Result ℕ ℕ)) → IsWithin n f → IsWithin (suc n) (next_place f)
 within_next n (Ok k) h = suc-le-suc h
 within_next n (Err k) h = suc-le-suc h
 
-place_within : {A : Type 0} (below same : A → Bool) (xs : List A) → Within (length xs) (place_from below same 0 xs)
+place_within : {A : Type 0} (below same : A → Bool) (xs : List A) → IsWithin (length xs) (place_from below same 0 xs)
 place_within below same [] = omega arith
 place_within below same (x ∷ xs) =
     on (below x) (λ t. rw (t, place_further below same 0 xs) (within_next (length xs) (place_from below same 0 xs) (place_within below same xs)))
@@ -116,9 +91,6 @@ module _ {A : Type 0} (lt : A → A → Bool) (a : A) (same : A → Bool) (once 
 -- ===== and whether it has a place among `size` =====
 
 module _ {A : Type 0} (size : ℕ) (a : A) (xs : List A) (few : length xs ≤ size) (k : ℕ) where
-  pub replaces : k < length xs → Splices size k (k + 1) (length xs)
-  replaces h = record { order = omega arith; within = omega arith; room = omega arith }
-
   pub inserts : k ≤ length xs → length xs < size → Splices size k k (length xs)
   inserts h l = record { order = omega arith; within = h; room = omega arith }
 

@@ -1,24 +1,24 @@
 -- Loops over the first places of an array, over any element type: a search, a test of neighbours, those that pass moved together, one put in where it stands.
 -- Assumes nothing.
 use Rattle.std.specs.List.{list_all, find}
-use Rattle.std.specs.Prelude.{Some, cond, is_some, filter}
+use Rattle.std.specs.Prelude.{cond, is_some, filter}
 use mathlib.Core.Bool.{Bool, ◌&&◌, ◌||◌, false, true}
 use mathlib.Core.List.{List, [], ◌++◌, ◌∷◌, append_assoc, append-nil}
-use mathlib.Core.Path.{◌∙◌, ◌≡◌, ap, ap₂, refl, sym}
+use mathlib.Core.Path.{◌∙◌, ◌≡◌, ap, refl, sym}
 use Prim.Native.Nat.{◌+◌, ◌-◌, ◌<◌, ◌≤◌, suc, zero, ℕ}
 use native.Mathlib.Nat.{le_refl}
 use native.Mathlib.Numerals.{add-one}
 use native.Mathlib.Omega.{arith}
-use borrow.Author.Tests.{le-ltb, ltb-false, ltb-true}
+use borrow.Author.Tests.{le-ltb}
 use lib.Dec.{ltb}
-use lib.ListN.{drop, drop_of_length-le, get_or, length, length-append, length-set, replicate, set, take, take-append-drop}
-use lib.Seq.{drop-append-add, drop-append-le, drop-cons, get_or-take, length-take-le, set_at, set-set, set_split, take-nil, take-set-le, take-take}
+use lib.ListN.{drop, get_or, length, length-append, replicate, set, take, take-append-drop}
+use lib.Seq.{drop-append-add, drop-append-le, length-take-le, set_split, take-take}
 use Rattle.block_records.proofs.arrays.ArrayLaws.{length_spliced, length_within}
-use Rattle.block_records.proofs.arrays.LoopLaws.{left, left_more, left_over, left_passed, padded_nil, set_padded, take_more}
+use Rattle.block_records.proofs.arrays.LoopLaws.{padded_nil, set_padded}
 use Rattle.block_records.proofs.rules.ListLaws.{Order, every_weaken}
 use Rattle.block_records.proofs.rules.Tests.{and_intro, and_left, and_right, iff_same, on}
 use Rattle.block_records.specs.arrays.Arrays.{overwritten, spliced}
-use Rattle.block_records.specs.rules.Lists.{last, padded, put, rising}
+use Rattle.block_records.specs.rules.Lists.{padded, put, rising}
 
 -- ===== the first places =====
 
@@ -28,42 +28,13 @@ module _ {A : Type 0} where
   few_listed size n xs l =
       rw (length_within size n xs l) (on (ltb n size) (λ t. rw t t) (λ t. rw t (le-ltb size size (le_refl size))))
 
-  last_snoc : (xs : List A) (a : A) → last (xs ++ (a ∷ [])) ≡ Some a
-  last_snoc [] a = refl
-  last_snoc (x ∷ []) a = refl
-  last_snoc (x ∷ y ∷ ys) a = last_snoc (y ∷ ys) a
-
-  -- the last of the first n
-  pub last_take : (xs : List A) (n : ℕ) (d : A) → 0 < n → n ≤ length xs → last (take n xs) ≡ Some (get_or xs (n - 1) d)
-  last_take xs n d p h =
-      let k : n ≡ n - 1 + 1 = omega arith in
-      let e : take n xs ≡ take (n - 1) xs ++ (get_or xs (n - 1) d ∷ []) = ap (λ (j : ℕ). take j xs) k ∙ take_more xs (n - 1) d (omega arith) in
-      rw e (last_snoc (take (n - 1) xs) (get_or xs (n - 1) d))
-
 -- ===== a search for one that passes, at place i of the first `count` =====
-
-module _ {A : Type 0} (p : A → Bool) (d : A) (l : List A) (count i : ℕ) where
-  -- this one does not pass
-  pub any_next : i < length l → i < count → p (get_or l i d) ≡ false → is_some (find p (left l count i)) ≡ is_some (find p (left l count (i + 1)))
-  any_next h k e = rw (left_more l count i d h k, e)
-
-  -- this one passes
-  pub any_stop : i < length l → i < count → p (get_or l i d) ≡ true → is_some (find p (left l count i)) ≡ true
-  any_stop h k e = rw (left_more l count i d h k, e)
-
-  -- none of them passed
-  pub any_passed : count ≤ i → is_some (find p (left l count i)) ≡ false
-  any_passed h = rw (left_passed l count i h)
 
 module _ {A : Type 0} (p : A → Bool) where
   -- one element more
   pub any_snoc : (xs : List A) (a : A) → is_some (find p (xs ++ (a ∷ []))) ≡ is_some (find p xs) || p a
   any_snoc [] a = on (p a) (λ t. rw t) (λ t. rw t)
   any_snoc (x ∷ xs) a = on (p x) (λ t. rw t) (λ t. rw t (any_snoc xs a))
-
-  -- .. of the first places; d is any element
-  pub any_more : (xs : List A) (i : ℕ) (d : A) → i < length xs → is_some (find p (take i xs)) || p (get_or xs i d) ≡ is_some (find p (take (i + 1) xs))
-  any_more xs i d h = sym (ap (λ (l : List A). is_some (find p l)) (take_more xs i d h) ∙ any_snoc (take i xs) (get_or xs i d))
 
 -- ===== a test that each element comes before the next =====
 
@@ -84,40 +55,6 @@ module _ {A : Type 0} (lt : A → A → Bool) where
           rw t
           (iff_same (list_all (lt x) ys && rising lt (y ∷ ys)) (rising lt (y ∷ ys)) (and_right (list_all (lt x) ys) (rising lt (y ∷ ys)))
           (λ h. and_intro (every_weaken (lt y) (lt x) ys (λ z l. o.trans x y z t l) (and_left (list_all (lt y) ys) (rising lt ys) h)) h))
-
-  module _ (d : A) (l : List A) (count i : ℕ) where
-    pair_next : 0 < i → i < length l → i < count → neighbours (left l count (i - 1)) ≡ lt (get_or l (i - 1) d) (get_or l i d) && neighbours (left l count i)
-    pair_next p h k =
-        let e : i - 1 + 1 ≡ i = omega arith in
-        let q : left l count (i - 1) ≡ get_or l (i - 1) d ∷ left l count i = left_more l count (i - 1) d (omega arith) (omega arith) ∙ ap (λ (j : ℕ). get_or l (i - 1) d ∷ left l count j) e in
-        rw (q, left_more l count i d h k)
-
-    -- this one comes after the one before it
-    pub rise_next : 0 < i → i < length l → i < count → lt (get_or l (i - 1) d) (get_or l i d) ≡ true → neighbours (left l count (i - 1)) ≡ neighbours (left l count (i + 1 - 1))
-    rise_next p h k e = let q : i + 1 - 1 ≡ i = omega arith in rw (pair_next p h k, e, q)
-
-    -- this one does not
-    pub rise_stop : 0 < i → i < length l → i < count → lt (get_or l (i - 1) d) (get_or l i d) ≡ false → neighbours (left l count (i - 1)) ≡ false
-    rise_stop p h k e = rw (pair_next p h k, e)
-
-    -- one at most is left
-    pub rise_passed : 0 < i → i ≤ length l + 1 → count ≤ i → neighbours (left l count (i - 1)) ≡ true
-    rise_passed p h k =
-        on (ltb (i - 1) count)
-        (λ t.
-        let m = ltb-true (i - 1) count t in
-        on (ltb (i - 1) (length l))
-        (λ u. let v = ltb-true (i - 1) (length l) u in rw (left_more l count (i - 1) d v m, left_passed l count (i - 1 + 1) (omega arith)))
-        (λ u. let v = ltb-false (i - 1) (length l) u in rw (drop_of_length-le l {i = i - 1} v, take-nil (count - (i - 1)))))
-        (λ t. let m = ltb-false (i - 1) count t in rw (left_passed l count (i - 1) m))
-
-    -- the list ends: one at most is left
-    pub rise_over : 0 < i → i ≤ length l → length l ≤ i → neighbours (left l count (i - 1)) ≡ true
-    rise_over p h k =
-        let v : i - 1 < length l = omega arith in
-        on (ltb (i - 1) count)
-        (λ t. let m = ltb-true (i - 1) count t in rw (left_more l count (i - 1) d v m, left_over l count (i - 1 + 1) (omega arith)))
-        (λ t. let m = ltb-false (i - 1) count t in rw (left_passed l count (i - 1) m))
 
 -- ===== a loop that moves the elements that pass together: after the first i of l, n are in `out` =====
 
@@ -169,63 +106,10 @@ module _ {A : Type 0} (p : A → Bool) where
 -- ===== a loop that moves those from place `at` on one place further, from the last on down; it has come to place j =====
 
 module _ {A : Type 0} (a : A) (xs : List A) (count : ℕ) where
-  -- with a put at place j
-  abbrev shifted : ℕ → List A
-  shifted j = take j xs ++ a ∷ (drop j (take count xs) ++ drop (count + 1) xs)
-
   -- where the loop stands
   pub record Opened (j : ℕ) (out : List A) : Type 0 where
     pub long : length out ≡ length xs
     pub below : take j out ≡ take j xs
-    pub opened : set out j a ≡ shifted j
-
-module _ {A : Type 0} (a : A) (xs : List A) (count : ℕ) (room : count < length xs) where
-  -- before the first turn
-  pub open_start : Opened a xs count count xs
-  open_start =
-      let l : length (take count xs) ≤ count = omega (arith, length-take-le count xs (omega arith)) in
-      record { long = refl; below = refl; opened = rw (set_split xs count a room, drop_of_length-le (take count xs) {i = count} l, add-one count) }
-
-  module _ (j : ℕ) (out : List A) (o : Opened a xs count j out) where
-    -- one element moves
-    pub open_next : (d : A) → 0 < j → j ≤ count → Opened a xs count (j - 1) (set out j (get_or out (j - 1) d))
-    open_next d p h =
-        let m : length (take j xs) ≡ j = length-take-le j xs (omega arith) in
-        let n : length (take (j - 1) xs) ≡ j - 1 = length-take-le (j - 1) xs (omega arith) in
-        let k : length (take count xs) ≡ count = length-take-le count xs (omega arith) in
-        let i : j ≡ j - 1 + 1 = omega arith in
-        let i' : j ≡ suc (j - 1) = omega arith in
-        let v : get_or out (j - 1) d ≡ get_or xs (j - 1) d =
-        sym (get_or-take j out (j - 1) d (omega arith)) ∙ ap (λ (l : List A). get_or l (j - 1) d) o.below ∙ get_or-take j xs (j - 1) d (omega arith) in
-        let t : take j xs ≡ take (j - 1) xs ++ (get_or xs (j - 1) d ∷ []) = ap (λ (q : ℕ). take q xs) i ∙ take_more xs (j - 1) d (omega arith) in
-        let r : drop (j - 1) (take count xs) ≡ get_or xs (j - 1) d ∷ drop j (take count xs) =
-        drop-cons (take count xs) (j - 1) d (omega arith) ∙ ap₂ ◌∷◌ (get_or-take count xs (j - 1) d (omega arith)) (ap (λ (q : ℕ). drop q (take count xs)) (sym i')) in
-        let w : set out j (get_or out (j - 1) d) ≡ take j xs ++ get_or xs (j - 1) d ∷ (drop j (take count xs) ++ drop (count + 1) xs) =
-        sym (set-set out j a (get_or out (j - 1) d)) ∙ ap (λ (l : List A). set l j (get_or out (j - 1) d)) o.opened
-        ∙ set_at (take j xs) a (drop j (take count xs) ++ drop (count + 1) xs) (get_or out (j - 1) d) j m
-        ∙ ap (λ (x : A). take j xs ++ x ∷ (drop j (take count xs) ++ drop (count + 1) xs)) v in
-        record {
-          long = length-set out j (get_or out (j - 1) d) ∙ o.long;
-          below =
-              take-set-le (j - 1) out j (get_or out (j - 1) d) (omega arith) ∙ sym (take-take (j - 1) j out (omega arith)) ∙ ap (take (j - 1)) o.below
-              ∙ take-take (j - 1) j xs (omega arith);
-          opened =
-              rw (w, t, append_assoc, r)
-              (set_at (take (j - 1) xs) (get_or xs (j - 1) d) (get_or xs (j - 1) d ∷ (drop j (take count xs) ++ drop (count + 1) xs)) a (j - 1) n);
-        }
-
-    -- then the element is put at its place
-    pub open_end : j ≤ count → set out j a ≡ overwritten (spliced j j a (take count xs)) xs
-    open_end h =
-        let k : length (take count xs) ≡ count = length-take-le count xs (omega arith) in
-        let l : length (spliced j j a (take count xs)) ≡ count + 1 = length_spliced j j a (take count xs) (omega arith) (omega arith) ∙ omega arith in
-        o.opened ∙ rw (l, append_assoc, take-take j count xs h)
-
-  -- how many there are then
-  pub inserted_length : (j : ℕ) → j ≤ count → count + 1 ≡ length (spliced j j a (take count xs))
-  inserted_length j h =
-      let k : length (take count xs) ≡ count = length-take-le count xs (omega arith) in
-      omega (arith, length_spliced j j a (take count xs) (omega arith) (omega arith))
 
 -- one that is replaced where it stands
 module _ {A : Type 0} (a : A) (xs : List A) (count : ℕ) (few : count ≤ length xs) (k : ℕ) (h : k < count) where

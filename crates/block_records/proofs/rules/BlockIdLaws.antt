@@ -3,24 +3,23 @@
 use mathlib.Core.Bool.{Bool, ◌&&◌, false, true}
 use mathlib.Core.List.{List, [], ◌∷◌}
 use mathlib.Core.Logic.{◌≢◌}
-use mathlib.Core.Path.{◌∙◌, ◌≡◌, ap, refl}
+use mathlib.Core.Path.{◌∙◌, ◌≡◌, ap, refl, sym}
 use Prim.Native.Nat.{ℕ}
 use Rattle.std.specs.Cmp.Lexicographic.{slice_partial_cmp}
-use Rattle.std.specs.Ordering.{int_cmp, is_eq, is_lt, is_some_and, nat_cmp, partial_ordering_then}
+use Rattle.std.specs.Ordering.{int_cmp, is_eq, is_gt, is_lt, is_some_and, nat_cmp, ordering_then, partial_ordering_then}
 use Rattle.std.specs.Prelude.{Option, None, Some}
 use Rattle.std.specs.declared.cmp.Ordering.{Ordering}
 use Rattle.std.specs.declared.cmp.Ordering.TheVariants.{Less, Equal, Greater}
 use lib.IntN.{ℤ}
 use lib.Signed.{lt_z}
 use native.Mathlib.Omega.{arith}
-use borrow.Author.Tests.{ltb-true, ne_eqb}
-use borrow.Author.Tests.{eqb-false, eqb-true}
+use borrow.Author.Tests.{eqb-false, eqb-true, le-ltb, lt-ltb, ltb-false, ltb-true, ne_eqb}
 use lib.Dec.{eqb, ltb}
 use Rattle.block_records.specs.declared.block_id.BlockId.{BlockId}
 use Rattle.block_records.specs.declared.block_id.BlockIdShort.{BlockIdShort}
 use Rattle.block_records.specs.declared.block_id.ShardIdent.{ShardIdent}
-use Rattle.block_records.proofs.rules.OrderLaws.{bytes_order, int_order, nat_order, then_order}
-use Rattle.block_records.proofs.rules.Tests.{clash, on}
+use Rattle.block_records.proofs.rules.OrderLaws.{asym, bytes_order, int_order, nat_order, then_order}
+use Rattle.block_records.proofs.rules.Tests.{absurd_eq, clash, on}
 use Rattle.block_records.specs.rules.BlockId.{id_shard, key_shard, less_hash, less_id, less_shard, same_hash, same_id, same_shard}
 use Rattle.block_records.specs.rules.Order.{IsOrder, then_by}
 
@@ -104,6 +103,13 @@ nat_eq_is x y =
     on (ltb x y) (λ t. let m = ltb-true x y t in rw (t, ne_eqb x y (λ e. absurd (omega arith))))
     (λ t. on (eqb x y) (λ u. rw (t, u)) (λ u. rw (t, u)))
 
+pub nat_gt_is : (x y : ℕ) → is_gt (nat_cmp x y) ≡ ltb y x
+nat_gt_is x y =
+    on (ltb x y) (λ t. let m = ltb-true x y t in rw (t, le-ltb y x (omega arith)))
+    (λ t. let m = ltb-false x y t in
+    on (eqb x y) (λ u. let e = eqb-true x y u in rw (t, u, le-ltb y x (omega arith)))
+    (λ u. let d = eqb-false x y u in rw (t, u, lt-ltb y x (omega arith))))
+
 -- of hashes, byte by byte
 abbrev bytes_cmp : List ℕ → List ℕ → Option Ordering
 bytes_cmp xs ys = slice_partial_cmp (λ (x y : ℕ). Some (nat_cmp x y)) xs ys
@@ -132,6 +138,50 @@ shard_lt a b =
 shard_eq : (a b : ShardIdent) → is_some_and is_eq (shard_cmp a b) ≡ same_shard a b
 shard_eq a b =
     then_eq (Some (int_cmp a.workchain b.workchain)) (Some (nat_cmp a.prefix b.prefix)) ∙ rw (nat_eq_is a.prefix b.prefix)
+
+-- as `cmp` orders shards
+abbrev pub shard_ordering : ShardIdent → ShardIdent → Ordering
+shard_ordering a b = ordering_then (int_cmp a.workchain b.workchain) (nat_cmp a.prefix b.prefix)
+
+pub shard_lt_is : (a b : ShardIdent) → is_lt (shard_ordering a b) ≡ less_shard a b
+unfolding less_shard
+shard_lt_is a b = by_first (int_cmp a.workchain b.workchain) (nat_cmp a.prefix b.prefix) ∙ rw (int_lt a.workchain b.workchain, nat_lt_is a.prefix b.prefix)
+  where
+    by_first : (p r : Ordering) → is_lt (ordering_then p r) ≡ then_by (is_lt p) (is_eq p) (is_lt r)
+    by_first Less r = refl
+    by_first Equal r = refl
+    by_first Greater r = refl
+
+pub shard_eq_is : (a b : ShardIdent) → is_eq (shard_ordering a b) ≡ same_shard a b
+shard_eq_is a b = by_both (int_cmp a.workchain b.workchain) (nat_cmp a.prefix b.prefix) ∙ rw (nat_eq_is a.prefix b.prefix)
+  where
+    by_both : (p r : Ordering) → is_eq (ordering_then p r) ≡ is_eq p && is_eq r
+    by_both Less r = refl
+    by_both Equal r = refl
+    by_both Greater r = refl
+
+pub shard_gt_is : (a b : ShardIdent) → is_gt (shard_ordering a b) ≡ less_shard b a
+shard_gt_is a b =
+    on (less_shard a b)
+    (λ t. not_less (shard_ordering a b) (shard_lt_is a b ∙ t) ∙ sym (asym shard_order a b t))
+    (λ t. on (same_shard a b)
+    (λ u. let e = shard_order.same_eq a b u in not_equal (shard_ordering a b) (shard_eq_is a b ∙ u) ∙ sym (rw e (shard_order.irrefl b)))
+    (λ u. neither (shard_ordering a b) (shard_lt_is a b ∙ t) (shard_eq_is a b ∙ u) ∙ sym (shard_order.tri a b u t)))
+  where
+    not_less : (o : Ordering) → is_lt o ≡ true → is_gt o ≡ false
+    not_less Less h = refl
+    not_less Equal h = refl
+    not_less Greater h = absurd_eq h
+
+    not_equal : (o : Ordering) → is_eq o ≡ true → is_gt o ≡ false
+    not_equal Less h = refl
+    not_equal Equal h = refl
+    not_equal Greater h = absurd_eq h
+
+    neither : (o : Ordering) → is_lt o ≡ false → is_eq o ≡ false → is_gt o ≡ true
+    neither Less h k = absurd_eq (sym h)
+    neither Equal h k = absurd_eq (sym k)
+    neither Greater h k = refl
 
 -- as the language compares ids
 abbrev pub id_cmp : BlockId → BlockId → Option Ordering

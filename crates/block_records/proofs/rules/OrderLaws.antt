@@ -2,7 +2,6 @@
 -- Assumes nothing.
 use mathlib.Core.Bool.{Bool, ◌&&◌, false, true, true≢false}
 use mathlib.Core.List.{List, [], ◌∷◌}
-use mathlib.Core.Logic.{◌↔◌}
 use mathlib.Core.Path.{◌∙◌, ◌≡◌, ap, ap₂, refl, sym}
 use Prim.Native.Nat.{◌≤◌, ℕ}
 use native.Mathlib.Omega.{arith}
@@ -159,9 +158,6 @@ bytes_order = record { same_eq = bytes_eq; same_refl = bytes_refl; irrefl = byte
 
 -- ---- what follows for any order: the laws to cite above
 module _ {A : Type 0} {same less : A → A → Bool} (o : IsOrder same less) (a b : A) where
-  pub same_iff : same a b ≡ true ↔ a ≡ b
-  same_iff = (o.same_eq a b, λ e. rw (← e) (o.same_refl a))
-
   pub less_not_same : less a b ≡ true → same a b ≡ false
   less_not_same l = not_true_false (same a b) (λ e. clash l (rw (o.same_eq a b e) (o.irrefl b)))
 

@@ -1,6 +1,6 @@
 -- Cases on a test, and what tests that hold say.
 -- Assumes nothing.
-use Rattle.std.specs.Prelude.{Option, None, Some, is_some}
+use Rattle.std.specs.Prelude.{Option, None, Some}
 use mathlib.Core.Bool.{Bool, ◌&&◌, ◌||◌, false, not, true, true≢false}
 use mathlib.Core.Path.{◌≡◌, refl, sym}
 use Prim.Native.Nat.{ℕ}
@@ -49,9 +49,9 @@ pub not_true : (b : Bool) → not b ≡ true → b ≡ false
 not_true true h = sym h
 not_true false h = refl
 
-pub present_some : {A : Type 0} (o : Option A) → is_some o ≡ true → (a : A) × (o ≡ Some a)
-present_some None h = clash h refl
-present_some (Some a) h = (a, refl)
+pub not_false : (b : Bool) → not b ≡ false → b ≡ true
+not_false true h = refl
+not_false false h = absurd_eq (sym h)
 
 pub some_not_none : {A P : Type 0} {o : Option A} {a : A} → o ≡ Some a → o ≡ None → P
 some_not_none {o = o} p q = let z : ◌≡◌ {A = ℕ} 0 1 = cc in absurd (omega arith)

@@ -1,11 +1,6 @@
--- Places of lists that stand in arrays with a count: how many are listed; where an element stands in a rising list, or the place where it
--- would go in; the first place of those that pass.
+-- Places in lists that stand in arrays with a count: where an element stands in a rising list, or the place where it would go in.
 -- Assumes nothing.
-use Rattle.std.specs.Prelude.{Bool, List, [], ◌∷◌, suc, ℕ, ltb, cond, Err, Ok, Result}
-
--- how many places lie below a count, of those that there are
-abbrev pub listed_count : ℕ → ℕ → ℕ
-listed_count n places = cond (ltb n places) n places
+use Rattle.std.specs.Prelude.{Bool, List, [], ◌∷◌, ◌<◌, ◌≤◌, suc, ℕ, cond, Err, Ok, Result}
 
 module _ {A : Type 0} where
   -- up to the first element that is not below the one asked for; it stands at place i
@@ -17,7 +12,7 @@ module _ {A : Type 0} where
   unfoldable pub place : (A → Bool) → (A → Bool) → List A → (Result ℕ ℕ)
   place below same xs = place_from below same 0 xs
 
-  -- the first place from i on whose element passes, else vacant at the place after the last
-  abbrev pub first_place : (A → Bool) → ℕ → List A → (Result ℕ ℕ)
-  first_place p i [] = Err i
-  first_place p i (x ∷ xs) = cond (p x) (Ok i) (first_place p (suc i) xs)
+-- a place that is found lies among n elements; one where an element would go in, among them or after the last
+abbrev pub IsWithin : ℕ → Result ℕ ℕ → Type 0
+IsWithin n (Ok k) = k < n
+IsWithin n (Err k) = k ≤ n

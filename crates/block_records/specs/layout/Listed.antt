@@ -1,12 +1,14 @@
 -- A list in a fixed number of places: the items first, zeros after them.
 -- Assumes nothing.
-use Rattle.std.specs.Prelude.{List, ℕ, length}
+use Rattle.std.specs.declared.cmp.Ordering.{Ordering}
+use Rattle.std.specs.Ordering.{is_gt, is_lt}
+use Rattle.std.specs.Prelude.{Bool, ◌≡◌, List, ℕ, cond, leb, length, take}
 use Rattle.block_records.specs.declared.block_id.BlockId.{BlockId}
 use Rattle.block_records.specs.declared.block_id.BlockIdShort.{BlockIdShort}
 use Rattle.block_records.specs.declared.listed.Listed.{Listed}
 use Rattle.block_records.specs.declared.top_block.TopBlock.{TopBlock}
 use Rattle.block_records.specs.rules.Limits.{keys_limit, prev_ids_limit, tops_limit}
-use Rattle.block_records.specs.rules.Lists.{padded}
+use Rattle.block_records.specs.rules.Lists.{padded, put}
 
 -- the items in n places, z in those that are left
 abbrev pub packed : {A : Type 0} (n : ℕ) → A → List A → Listed A n
@@ -23,3 +25,16 @@ Keys = Listed BlockIdShort keys_limit
 -- top items, 8 at most
 abbrev pub TopBlocks : Type 0
 TopBlocks = Listed TopBlock tops_limit
+
+-- the items below the count; a count past the places lists them all
+abbrev pub listed : {A : Type 0} {n : ℕ} → Listed A n → List A
+listed l = take l.count l.items
+
+-- a put among n places: where it would be one too many, nothing changes
+abbrev pub put_listed : {A : Type 0} (n : ℕ) → A → (A → A → Bool) → A → Listed A n → Listed A n
+put_listed n z lt a l = cond (leb (length (put lt a (listed l))) n) (packed n z (put lt a (listed l))) l
+
+-- what comparing each with a tells is the order, seen from a
+pub record Compares {A : Type 0} (lt : A → A → Bool) (a : A) (cmp : A → Ordering) : Type 0 where
+  pub below : (x : A) → lt x a ≡ is_lt (cmp x)
+  pub above : (x : A) → lt a x ≡ is_gt (cmp x)

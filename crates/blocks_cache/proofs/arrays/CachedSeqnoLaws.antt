@@ -1,31 +1,32 @@
 -- Seqnos beside the entries instead of removals: what is found among those still cached, and what one less makes of the groups.
 -- Assumes nothing.
+use Rattle.block_records.specs.layout.Listed.{packed}
+use Rattle.blocks_group.proofs.layout.GroupLaws.{listed_packed_each}
+use Rattle.blocks_group.specs.layout.Block.{shard_parts}
+use Rattle.blocks_group.specs.layout.Group.{held_empty_group, pack_group}
+use Rattle.blocks_group.specs.rules.Group.{GroupModel, at_seqno, entry_before, has_seqno, without}
 use Rattle.std.specs.List.{list_all}
-use Rattle.std.specs.Prelude.{None, Some, map}
+use Rattle.std.specs.Prelude.{None, Option, Some, is_some, map}
 use Rattle.std.proofs.Common.{◌≡◌, ℕ, zero, suc, ◌+◌, ◌-◌, ◌<◌, Bool, true, false, not, eqb, ◌⊎◌, List, [], ◌∷◌, ◌++◌, length, get_or, set, replicate, sym, refl, ap, ◌∙◌, subst, ap₂, inl, inr, le_of_suc-le-suc, arith, ltb-true, eq-eqb, ne_eqb, eqb-true}
 use Rattle.block_records.specs.declared.block_id.BlockId.{BlockId}
 use Rattle.block_records.specs.declared.block_id.ShardIdent.{ShardIdent}
 use Rattle.block_records.specs.declared.entry.BlockCacheEntry.{BlockCacheEntry}
 use Rattle.blocks_cache.specs.declared.cache.ShardGroup.{ShardGroup}
-use Rattle.blocks_cache.specs.declared.lookup.EntrySeqno.{EntrySeqno}
 use Rattle.blocks_cache.specs.declared.lookup.GroupSeqnos.{GroupSeqnos}
 use Rattle.block_records.proofs.arrays.LoopLaws.{padded_nil}
 use Rattle.block_records.proofs.rules.BlockIdLaws.{same_shard_true, shard_order}
-use Rattle.block_records.proofs.rules.ListLaws.{every_weaken, length_each}
-use Rattle.block_records.proofs.rules.Tests.{absurd_eq, and_left, and_right, clash, not_true_false, on}
+use Rattle.block_records.proofs.rules.ListLaws.{every_weaken}
+use Rattle.block_records.proofs.rules.Tests.{absurd_eq, and_left, and_right, not_true_false, on}
 use Rattle.block_records.specs.layout.Entry.{pack_entry}
-use Rattle.block_records.specs.layout.Zeros.{zero_entry, zero_shard}
+use Rattle.block_records.specs.layout.Zeros.{zero_entry}
 use Rattle.block_records.specs.rules.BlockId.{id_shard, key, less_shard, same_shard}
 use Rattle.block_records.specs.rules.Entry.{Entry}
 use Rattle.block_records.specs.rules.Lists.{padded, rising}
-use Rattle.blocks_cache.proofs.arrays.ExtractionLaws.{FirstAt, NonePasses}
-use Rattle.blocks_cache.specs.arrays.Extraction.{compact_shard, compact_shards, seqno_gone, still_cached}
-use Rattle.blocks_cache.specs.arrays.Lookup.{cached_at, group_seqnos, no_seqno_here, no_seqnos, seqno_here, shard_seqnos}
+use Rattle.blocks_cache.proofs.arrays.FirstPlaceLaws.{FirstAt, NonePasses}
+use Rattle.blocks_cache.specs.arrays.Extraction.{compact_shard, compact_shards, still_cached}
+use Rattle.blocks_cache.specs.arrays.Lookup.{cached_at, group_seqnos, no_seqnos, seqno_here, shard_seqnos}
 use Rattle.blocks_cache.specs.arrays.Shards.{ident_at, shard_ident}
 use Rattle.blocks_cache.specs.layout.Cache.{pack_shard, zero_shard_group}
-use Rattle.blocks_group.proofs.arrays.GroupLaws.{listed_packed}
-use Rattle.blocks_group.specs.layout.Group.{pack_group, zero_group}
-use Rattle.blocks_group.specs.rules.Group.{GroupModel, at_seqno, entry_before, has_seqno, without}
 use Rattle.cache_rules.specs.Model.{ShardModel, block_under, on_shard, shard_before}
 
 -- ===== what the groups are now =====
@@ -41,12 +42,17 @@ now_shards [] gs = []
 now_shards (s ∷ ss) [] = []
 now_shards (s ∷ ss) (g ∷ gs) = now_shard s g ∷ now_shards ss gs
 
--- the seqnos stand beside the entries; after them none is cached
-abbrev pub Numbered : List EntrySeqno → List Entry → Type 0
+-- no seqno, or that of the entry
+abbrev IsSeqno : Option ℕ → Entry → Type 0
+IsSeqno None e = Unit {0}
+IsSeqno (Some n) e = n ≡ e.id.seqno
+
+-- the seqnos of those still cached stand beside the entries; none after them
+abbrev pub Numbered : List (Option ℕ) → List Entry → Type 0
 Numbered [] [] = Unit {0}
 Numbered [] (e ∷ es) = ⊥
-Numbered (x ∷ xs) [] = (x.cached ≡ false) × Numbered xs []
-Numbered (x ∷ xs) (e ∷ es) = (x.seqno ≡ e.id.seqno) × Numbered xs es
+Numbered (x ∷ xs) [] = (x ≡ None) × Numbered xs []
+Numbered (x ∷ xs) (e ∷ es) = IsSeqno x e × Numbered xs es
 
 -- the shards and seqnos stand beside the groups; after them there are none
 abbrev pub Indexed : List ShardIdent → List GroupSeqnos → List ShardModel → Type 0
@@ -60,41 +66,52 @@ Indexed (i ∷ is) (s ∷ ss) (g ∷ gs) = (i ≡ g.shard) × Numbered s.entries
 -- ===== the entries of one group =====
 
 module _ (n : ℕ) where
-  hit : (x : EntrySeqno) → cached_at n x ≡ true → (x.cached ≡ true) × (x.seqno ≡ n)
-  hit x e = (and_left x.cached (eqb x.seqno n) e, eqb-true x.seqno n (and_right x.cached (eqb x.seqno n) e))
+  hit : (x : Option ℕ) → cached_at n x ≡ true → x ≡ Some n
+  hit None e = absurd_eq e
+  hit (Some m) e = ap Some (eqb-true m n e)
 
-  -- one that is cached and is not hit has another seqno
-  miss : (x : EntrySeqno) (e : Entry) → x.seqno ≡ e.id.seqno → cached_at n x ≡ false → x.cached ≡ true → eqb e.id.seqno n ≡ false
-  miss x e s f c = let q : eqb x.seqno n ≡ false = rw c at f in sym (ap (λ (k : ℕ). eqb k n) s) ∙ q
+  -- no seqno is hit where there is none
+  no_hit : (x : Option ℕ) → x ≡ None → cached_at n x ≡ true → ⊥
+  no_hit None w e = absurd_eq e
+  no_hit (Some m) w e = absurd_eq (sym (ap is_some w))
 
-  pub none_cached : (xs : List EntrySeqno) (es : List Entry) → NonePasses (cached_at n) xs → Numbered xs es → at_seqno n (still_cached xs es) ≡ None
+  -- the one that is hit is the entry's
+  hit_seqno : (x : Option ℕ) (e : Entry) → cached_at n x ≡ true → IsSeqno x e → e.id.seqno ≡ n
+  hit_seqno None e h w = absurd_eq h
+  hit_seqno (Some m) e h w = sym w ∙ eqb-true m n h
+
+  -- one that is not hit is another's
+  miss : (m : ℕ) (e : Entry) → m ≡ e.id.seqno → eqb m n ≡ false → eqb e.id.seqno n ≡ false
+  miss m e s f = sym (ap (λ (k : ℕ). eqb k n) s) ∙ f
+
+  pub none_cached : (xs : List (Option ℕ)) (es : List Entry) → NonePasses (cached_at n) xs → Numbered xs es → at_seqno n (still_cached xs es) ≡ None
   none_cached [] es f w = refl
   none_cached (x ∷ xs) [] f w = refl
-  none_cached (x ∷ xs) (e ∷ es) f w =
-      let ih = none_cached xs es f.1 w.1 in on x.cached (λ c. rw (c, miss x e w.0 f.0 c) ih) (λ c. rw c ih)
+  none_cached (None ∷ xs) (e ∷ es) f w = none_cached xs es f.1 w.1
+  none_cached (Some m ∷ xs) (e ∷ es) f w = rw (miss m e w.0 f.0) (none_cached xs es f.1 w.1)
 
-  pub cached_within : (xs : List EntrySeqno) (es : List Entry) (j : ℕ) → FirstAt (cached_at n) xs j → Numbered xs es → j < length es
+  pub cached_within : (xs : List (Option ℕ)) (es : List Entry) (j : ℕ) → FirstAt (cached_at n) xs j → Numbered xs es → j < length es
   cached_within [] es j f w = absurd f
-  cached_within (x ∷ xs) [] zero f w = clash (hit x f).0 w.0
+  cached_within (x ∷ xs) [] zero f w = absurd (no_hit x w.0 f)
   cached_within (x ∷ xs) [] (suc j) f w = absurd (omega (arith, cached_within xs [] j f.1 w.1))
   cached_within (x ∷ xs) (e ∷ es) zero f w = omega arith
   cached_within (x ∷ xs) (e ∷ es) (suc j) f w = let ih = cached_within xs es j f.1 w.1 in omega arith
 
-  pub found_cached : (xs : List EntrySeqno) (es : List Entry) (j : ℕ) (d : Entry) → FirstAt (cached_at n) xs j → Numbered xs es → at_seqno n (still_cached xs es) ≡ Some (get_or es j d)
+  pub found_cached : (xs : List (Option ℕ)) (es : List Entry) (j : ℕ) (d : Entry) → FirstAt (cached_at n) xs j → Numbered xs es → at_seqno n (still_cached xs es) ≡ Some (get_or es j d)
   found_cached [] es j d f w = absurd f
   found_cached (x ∷ xs) [] j d f w = absurd (omega (arith, cached_within (x ∷ xs) [] j f w))
-  found_cached (x ∷ xs) (e ∷ es) zero d f w = let h = hit x f in rw (h.0, eq-eqb e.id.seqno n (sym w.0 ∙ h.1))
-  found_cached (x ∷ xs) (e ∷ es) (suc j) d f w =
-      let ih = found_cached xs es j d f.1 w.1 in on x.cached (λ c. rw (c, miss x e w.0 f.0 c) ih) (λ c. rw c ih)
+  found_cached (x ∷ xs) (e ∷ es) zero d f w = rw (hit x f, eq-eqb e.id.seqno n (hit_seqno x e f w.0))
+  found_cached (None ∷ xs) (e ∷ es) (suc j) d f w = found_cached xs es j d f.1 w.1
+  found_cached (Some m ∷ xs) (e ∷ es) (suc j) d f w = rw (miss m e w.0 f.0) (found_cached xs es j d f.1 w.1)
 
   -- where no entry has the seqno none goes
-  keeps_all : (xs : List EntrySeqno) (es : List Entry) → list_all (λ (e : Entry). not (has_seqno n e)) es ≡ true → without n (still_cached xs es) ≡ still_cached xs es
+  keeps_all : (xs : List (Option ℕ)) (es : List Entry) → list_all (λ (e : Entry). not (has_seqno n e)) es ≡ true → without n (still_cached xs es) ≡ still_cached xs es
   keeps_all [] es a = refl
   keeps_all (x ∷ xs) [] a = refl
   keeps_all (x ∷ xs) (e ∷ es) a =
       let k : not (has_seqno n e) ≡ true = and_left (not (has_seqno n e)) (list_all (λ (e : Entry). not (has_seqno n e)) es) a in
       let ih = keeps_all xs es (and_right (not (has_seqno n e)) (list_all (λ (e : Entry). not (has_seqno n e)) es) a) in
-      on x.cached (λ c. rw (c, k, ih)) (λ c. rw c ih)
+      on (is_some x) (λ c. rw (c, k, ih)) (λ c. rw c ih)
 
   -- the others have seqnos above
   others_above : (e : Entry) (es : List Entry) → e.id.seqno ≡ n → list_all (entry_before e) es ≡ true → list_all (λ (y : Entry). not (has_seqno n y)) es ≡ true
@@ -102,22 +119,23 @@ module _ (n : ℕ) where
       every_weaken (entry_before e) (λ (y : Entry). not (has_seqno n y)) es
       (λ y l. let k = ltb-true e.id.seqno y.id.seqno l in rw (ne_eqb y.id.seqno n (λ z. omega arith))) a
 
-  pub cached_leaves : (xs : List EntrySeqno) (es : List Entry) (j : ℕ) → FirstAt (cached_at n) xs j → Numbered xs es → rising entry_before es ≡ true →
-      without n (still_cached xs es) ≡ still_cached (set xs j (seqno_gone n)) es
+  pub cached_leaves : (xs : List (Option ℕ)) (es : List Entry) (j : ℕ) → FirstAt (cached_at n) xs j → Numbered xs es → rising entry_before es ≡ true →
+      without n (still_cached xs es) ≡ still_cached (set xs j None) es
   cached_leaves [] es j f w r = absurd f
   cached_leaves (x ∷ xs) [] j f w r = absurd (omega (arith, cached_within (x ∷ xs) [] j f w))
   cached_leaves (x ∷ xs) (e ∷ es) zero f w r =
-      let h = hit x f in
-      let q : e.id.seqno ≡ n = sym w.0 ∙ h.1 in
-      rw (h.0, eq-eqb e.id.seqno n q) (keeps_all xs es (others_above e es q (and_left (list_all (entry_before e) es) (rising entry_before es) r)))
-  cached_leaves (x ∷ xs) (e ∷ es) (suc j) f w r =
-      let ih = cached_leaves xs es j f.1 w.1 (and_right (list_all (entry_before e) es) (rising entry_before es) r) in
-      on x.cached (λ c. rw (c, miss x e w.0 f.0 c) (ap (λ (l : List Entry). e ∷ l) ih)) (λ c. rw c ih)
+      let q = hit_seqno x e f w.0 in
+      rw (hit x f, eq-eqb e.id.seqno n q) (keeps_all xs es (others_above e es q (and_left (list_all (entry_before e) es) (rising entry_before es) r)))
+  cached_leaves (None ∷ xs) (e ∷ es) (suc j) f w r =
+      cached_leaves xs es j f.1 w.1 (and_right (list_all (entry_before e) es) (rising entry_before es) r)
+  cached_leaves (Some m ∷ xs) (e ∷ es) (suc j) f w r =
+      rw (miss m e w.0 f.0)
+      (ap (λ (l : List Entry). e ∷ l) (cached_leaves xs es j f.1 w.1 (and_right (list_all (entry_before e) es) (rising entry_before es) r)))
 
-  pub leaves_numbered : (xs : List EntrySeqno) (es : List Entry) (j : ℕ) → FirstAt (cached_at n) xs j → Numbered xs es → Numbered (set xs j (seqno_gone n)) es
+  pub leaves_numbered : (xs : List (Option ℕ)) (es : List Entry) (j : ℕ) → FirstAt (cached_at n) xs j → Numbered xs es → Numbered (set xs j None) es
   leaves_numbered [] es j f w = absurd f
   leaves_numbered (x ∷ xs) [] j f w = absurd (omega (arith, cached_within (x ∷ xs) [] j f w))
-  leaves_numbered (x ∷ xs) (e ∷ es) zero f w = (sym (hit x f).1 ∙ w.0, w.1)
+  leaves_numbered (x ∷ xs) (e ∷ es) zero f w = (tt, w.1)
   leaves_numbered (x ∷ xs) (e ∷ es) (suc j) f w = (w.0, leaves_numbered xs es j f.1 w.1)
 
 -- ===== the groups =====
@@ -222,8 +240,7 @@ on_shard_twice s f g [] = refl
 on_shard_twice s f g (x ∷ gs) = let ih = on_shard_twice s f g gs in on (same_shard x.shard s) (λ t. rw (t, t, ih)) (λ t. rw (t, t, ih))
 
 -- where there is no group nothing is cached
-none_here : (n m j : ℕ) → FirstAt (cached_at n) (replicate m no_seqno_here) j → ⊥
-unfolding no_seqno_here
+none_here : (n m j : ℕ) → FirstAt (cached_at n) (replicate m None) j → ⊥
 none_here n zero j a = a
 none_here n (suc m) zero a = absurd_eq a
 none_here n (suc m) (suc j) a = none_here n m j a.1
@@ -234,33 +251,32 @@ none_in_empty n j a = none_here n 16 j a
 
 -- ===== before the first turn =====
 
-none_numbered : (m : ℕ) → Numbered (replicate m no_seqno_here) []
-unfolding no_seqno_here
+none_numbered : (m : ℕ) → Numbered (replicate m None) []
 none_numbered zero = tt
 none_numbered (suc m) = (refl, none_numbered m)
 
-first_numbered : (m : ℕ) (es : List Entry) → Numbered (map seqno_here (map pack_entry es) ++ replicate m no_seqno_here) es
+first_numbered : (m : ℕ) (es : List Entry) → Numbered (map seqno_here (map pack_entry es) ++ replicate m None) es
 first_numbered m [] = none_numbered m
 first_numbered m (e ∷ es) = (refl, first_numbered m es)
 
-no_entries : {A : Type 0} (xs : List EntrySeqno) → still_cached {A = A} xs [] ≡ []
+no_entries : {A : Type 0} (xs : List (Option ℕ)) → still_cached {A = A} xs [] ≡ []
 no_entries [] = refl
 no_entries (x ∷ xs) = refl
 
-first_cached : (m : ℕ) (es : List Entry) → still_cached (map seqno_here (map pack_entry es) ++ replicate m no_seqno_here) es ≡ es
-first_cached m [] = no_entries (replicate m no_seqno_here)
+first_cached : (m : ℕ) (es : List Entry) → still_cached (map seqno_here (map pack_entry es) ++ replicate m None) es ≡ es
+first_cached m [] = no_entries (replicate m None)
 first_cached m (e ∷ es) = ap (λ (r : List Entry). e ∷ r) (first_cached m es)
 
-first_seqnos : (g : GroupModel) → (group_seqnos (pack_group g)).entries ≡ map seqno_here (map pack_entry g.entries) ++ replicate (16 - length (map seqno_here (map pack_entry g.entries))) no_seqno_here
+first_seqnos : (g : GroupModel) → (group_seqnos (pack_group shard_parts g)).entries ≡ map seqno_here (map pack_entry g.entries) ++ replicate (16 - length (map seqno_here (map pack_entry g.entries))) None
 unfolding padded
-first_seqnos g = ap (λ (bs : List BlockCacheEntry). map seqno_here bs ++ replicate (16 - length (map seqno_here bs)) no_seqno_here) (listed_packed g)
+first_seqnos g = ap (λ (bs : List BlockCacheEntry). map seqno_here bs ++ replicate (16 - length (map seqno_here bs)) None) (listed_packed_each 16 zero_entry pack_entry g.entries)
 
 abbrev spare : GroupModel → ℕ
 spare g = 16 - length (map seqno_here (map pack_entry g.entries))
 
 zero_seqnos : shard_seqnos zero_shard_group ≡ no_seqnos
-unfolding zero_shard_group zero_group no_seqnos
-zero_seqnos = let e = padded_nil 16 no_seqno_here in λ i. record { entries = e i; mark = None }
+unfolding zero_shard_group held_empty_group no_seqnos
+zero_seqnos = let e : padded {A = Option ℕ} 16 None [] ≡ replicate 16 None = padded_nil 16 None in λ i. record { entries = e i; mark = None }
 
 no_groups_indexed : (m : ℕ) → Indexed (map shard_ident (replicate m zero_shard_group)) (map shard_seqnos (replicate m zero_shard_group)) []
 no_groups_indexed zero = tt
@@ -270,7 +286,7 @@ pub first_indexed : (m : ℕ) (gs : List ShardModel) →
     Indexed (map shard_ident (map pack_shard gs ++ replicate m zero_shard_group)) (map shard_seqnos (map pack_shard gs ++ replicate m zero_shard_group)) gs
 first_indexed m [] = no_groups_indexed m
 first_indexed m (g ∷ gs) =
-    (refl, subst (λ (xs : List EntrySeqno). Numbered xs g.group.entries) (sym (first_seqnos g.group)) (first_numbered (spare g.group) g.group.entries), first_indexed m gs)
+    (refl, subst (λ (xs : List (Option ℕ)). Numbered xs g.group.entries) (sym (first_seqnos g.group)) (first_numbered (spare g.group) g.group.entries), first_indexed m gs)
 
 no_groups : (ss : List GroupSeqnos) → now_shards ss [] ≡ []
 no_groups [] = refl
@@ -279,36 +295,35 @@ no_groups (s ∷ ss) = refl
 pub first_now : (rest : List ShardGroup) (gs : List ShardModel) → now_shards (map shard_seqnos (map pack_shard gs ++ rest)) gs ≡ gs
 first_now rest [] = no_groups (map shard_seqnos rest)
 first_now rest (g ∷ gs) =
-    let a = ap (λ (xs : List EntrySeqno). still_cached xs g.group.entries) (first_seqnos g.group) ∙ first_cached (spare g.group) g.group.entries in
+    let a = ap (λ (xs : List (Option ℕ)). still_cached xs g.group.entries) (first_seqnos g.group) ∙ first_cached (spare g.group) g.group.entries in
     let c : now_shard (shard_seqnos (pack_shard g)) g ≡ g = λ i. record { shard = g.shard; group = record { entries = a i; mark = g.group.mark; boundary = g.group.boundary } } in
     ap₂ (λ (x : ShardModel) (xs : List ShardModel). x ∷ xs) c (first_now rest gs)
 
 -- ===== after the last turn =====
 
 -- places past the entries are not cached
-compact_none : (xs : List EntrySeqno) (bs : List BlockCacheEntry) → Numbered xs [] → still_cached xs bs ≡ []
+compact_none : (xs : List (Option ℕ)) (bs : List BlockCacheEntry) → Numbered xs [] → still_cached xs bs ≡ []
 compact_none [] bs w = refl
 compact_none (x ∷ xs) [] w = refl
 compact_none (x ∷ xs) (b ∷ bs) w = rw w.0 (compact_none xs bs w.1)
 
-compact_packed : (xs : List EntrySeqno) (es : List Entry) (bs : List BlockCacheEntry) → Numbered xs es → still_cached xs (map pack_entry es ++ bs) ≡ map pack_entry (still_cached xs es)
+compact_packed : (xs : List (Option ℕ)) (es : List Entry) (bs : List BlockCacheEntry) → Numbered xs es → still_cached xs (map pack_entry es ++ bs) ≡ map pack_entry (still_cached xs es)
 compact_packed xs [] bs w = compact_none xs bs w ∙ ap (map pack_entry) (sym (no_entries xs))
 compact_packed [] (e ∷ es) bs w = absurd w
-compact_packed (x ∷ xs) (e ∷ es) bs w =
-    let ih = compact_packed xs es bs w.1 in on x.cached (λ c. rw c (ap (λ (r : List BlockCacheEntry). pack_entry e ∷ r) ih)) (λ c. rw c ih)
+compact_packed (None ∷ xs) (e ∷ es) bs w = compact_packed xs es bs w.1
+compact_packed (Some n ∷ xs) (e ∷ es) bs w = ap (λ (r : List BlockCacheEntry). pack_entry e ∷ r) (compact_packed xs es bs w.1)
 
 compact_shard_packed : (s : GroupSeqnos) (g : ShardModel) → Numbered s.entries g.group.entries → compact_shard (pack_shard g) s ≡ pack_shard (now_shard s g)
 unfolding padded
 compact_shard_packed s g w =
     let es = g.group.entries in
-    let a : still_cached s.entries (pack_group g.group).entries ≡ map pack_entry (still_cached s.entries es) =
+    let a : still_cached s.entries (pack_group shard_parts g.group).entries.items ≡ map pack_entry (still_cached s.entries es) =
     compact_packed s.entries es (replicate (16 - length (map pack_entry es)) zero_entry) w in
-    let b : length (still_cached s.entries (pack_group g.group).entries) ≡ length (still_cached s.entries es) = ap length a ∙ length_each pack_entry (still_cached s.entries es) in
-    λ i. record { shard = g.shard; group = record { entries = padded 16 zero_entry (a i); count = b i; mark = s.mark; boundary = g.group.boundary } }
+    λ i. record { shard = g.shard; group = record { mark = s.mark; boundary = g.group.boundary; entries = packed 16 zero_entry (a i) } }
 
 compact_zero : compact_shard zero_shard_group no_seqnos ≡ zero_shard_group
-unfolding zero_shard_group zero_group no_seqnos no_seqno_here
-compact_zero = let e = padded_nil 16 zero_entry in λ i. record { shard = zero_shard; group = record { entries = e i; count = 0; mark = None; boundary = None } }
+unfolding zero_shard_group held_empty_group no_seqnos padded
+compact_zero = refl
 
 compact_empty : (is : List ShardIdent) (ss : List GroupSeqnos) → Indexed is ss [] → compact_shards (replicate (length ss) zero_shard_group) ss ≡ replicate (length ss) zero_shard_group
 compact_empty [] [] w = refl

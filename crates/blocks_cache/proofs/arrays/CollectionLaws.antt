@@ -1,10 +1,20 @@
 -- Set boundary, collect and remove next collated on a cache as it is held are the rules, packed; and each is the call.
 -- Assumes nothing.
+use Rattle.block_records.specs.layout.Listed.{listed, packed}
+use Rattle.blocks_group.proofs.arrays.QueryLaws.{below_go, collect_group_packed, from_go, highest_below_boundary_packed, kept_by, lowest_collated_above_packed, remove_collated_above_packed}
+use Rattle.blocks_group.proofs.rules.GroupLaws.{entry_seqno}
+use Rattle.blocks_group.specs.arrays.Queries.{highest_below_boundary, highest_seqno, lowest_collated_above, lowest_seqno, remove_collated_above}
+use Rattle.blocks_group.specs.layout.Block.{master_laws, master_parts, shard_laws, shard_parts}
+use Rattle.blocks_group.specs.layout.Group.{ShardBlocks, pack_group}
+use Rattle.blocks_group.specs.rules.Group.{GroupModel, below_boundary, collated_above, with_boundary, without_collated_above}
 use Rattle.block_records.specs.declared.questions.Refusal.TheVariants.{Unsound}
+use Rattle.blocks_group.specs.arrays.Group.{set_boundary}
+use Rattle.blocks_group.specs.arrays.Queries.{collect_group}
+use Rattle.blocks_group.proofs.layout.GroupLaws.{listed_packed_each}
 use Rattle.std.specs.List.{list_all, fold}
 use Rattle.std.specs.Prelude.{Option, None, Some, map, cond, filter, Err, Ok, Result, ⊤}
-use Rattle.std.proofs.Common.{◌≡◌, ℕ, zero, suc, ◌+◌, ◌-◌, ◌<◌, ◌≤◌, Bool, true, false, not, ltb, leb, List, [], ◌∷◌, ◌++◌, length, get_or, take, set, replicate, sym, refl, ap, ◌∙◌, subst, ap₂, append_assoc, le_of_suc-le-suc, not-suc-le-zero, add-one, arith, length-append, length-set}
-use lib.Seq.{get_or_at, set_at}
+use Rattle.std.proofs.Common.{◌≡◌, ℕ, zero, suc, ◌+◌, ◌-◌, ◌<◌, ◌≤◌, true, false, not, ltb, leb, List, [], ◌∷◌, ◌++◌, length, drop, get_or, take, set, replicate, sym, refl, ap, ◌∙◌, subst, ap₂, append_assoc, le_of_suc-le-suc, not-suc-le-zero, add-one, arith, length-append}
+use lib.Seq.{drop-append_seam, get_or_at, set_at}
 use Rattle.block_records.specs.declared.block_id.BlockId.{BlockId}
 use Rattle.block_records.specs.declared.block_id.BlockIdShort.{BlockIdShort}
 use Rattle.block_records.specs.declared.block_id.ShardIdent.{ShardIdent}
@@ -12,11 +22,9 @@ use Rattle.block_records.specs.declared.questions.Refusal.{Refusal}
 use Rattle.block_records.specs.layout.Listed.{Keys}
 use Rattle.blocks_cache.specs.declared.cache.Cache.{Cache}
 use Rattle.blocks_cache.specs.declared.cache.ShardGroup.{ShardGroup}
-use Rattle.blocks_cache.specs.declared.master_data.MasterData.{MasterData}
-use Rattle.blocks_group.specs.declared.group.Group.{Group}
-use Rattle.blocks_group.specs.declared.group.MasterGroup.{MasterGroup}
-use Rattle.block_records.proofs.arrays.ArrayLaws.{get_d_any}
-use Rattle.block_records.proofs.arrays.LoopLaws.{left, left_more, left_over, left_passed, left_start}
+use Rattle.block_records.proofs.arrays.ArrayLaws.{get_d_any, length_take_few}
+use Rattle.block_records.proofs.arrays.LoopLaws.{drop_next}
+use Rattle.std.proofs.lemmas.List.{drop_all}
 use Rattle.block_records.proofs.rules.BlockIdLaws.{shard_order}
 use Rattle.block_records.proofs.rules.ListLaws.{every_weaken, length_each, rising_each}
 use Rattle.block_records.proofs.rules.OrderLaws.{differs, less_not_same}
@@ -26,29 +34,23 @@ use Rattle.block_records.specs.rules.BlockId.{is_masterchain, key_shard, less_sh
 use Rattle.block_records.specs.rules.Lists.{padded, rising}
 use Rattle.block_records.specs.rules.Questions.{Question, ask, first_no, keys_questions, passed}
 use Rattle.blocks_cache.proofs.arrays.MasterDataLaws.{drop_ids_below_packed, drop_ids_from_packed}
-use Rattle.blocks_cache.proofs.arrays.ShardsLaws.{idents_place, shard_place_listed, shard_place_packed}
+use Rattle.blocks_cache.proofs.arrays.ShardsLaws.{shard_place_listed, shard_place_packed}
 use Rattle.blocks_cache.proofs.layout.CallLaws.{no_leaves, err_of}
 use Rattle.blocks_cache.proofs.layout.CallOnLaws.{on_sound}
-use Rattle.blocks_cache.specs.arrays.Cache.{with_master_data, with_master_group, with_shard_groups}
-use Rattle.blocks_cache.specs.arrays.Collection.{change_outcome, changed_first, collect_shard_group, done_with, drop_collected, drop_removed, held_bound_one, held_collect, held_remove_masters, held_remove_one, keys_answer, on_place, on_shard_group}
-use Rattle.blocks_cache.specs.arrays.Shards.{ident_place, shard_ident, shard_place}
+use Rattle.blocks_cache.specs.arrays.Cache.{with_shard_groups}
+use Rattle.blocks_cache.specs.arrays.Collection.{change_outcome, collect_shards, collect_shard_group, done_with, drop_collected, drop_removed, held_bound_one, held_collect, held_remove_masters, held_remove_one, on_place, on_shard_group}
+use Rattle.blocks_cache.specs.arrays.Shards.{shard_place}
 use Rattle.blocks_cache.specs.layout.Cache.{answered_on, call_on, pack, pack_outcome, pack_shard, questions_on, sound_cache, view, zero_shard_group}
-use Rattle.blocks_group.proofs.arrays.QueryLaws.{below_go, collect_group_packed, collect_masters_packed, from_go, highest_below_boundary_packed, kept_by, lowest_collated_above_packed, remove_collated_above_packed, remove_collated_masters_above_packed}
-use Rattle.blocks_group.proofs.rules.GroupLaws.{entry_seqno}
-use Rattle.blocks_group.specs.arrays.Group.{set_group_boundary, set_master_boundary}
-use Rattle.blocks_group.specs.arrays.Queries.{collect_group, collect_masters, highest_below_boundary, highest_seqno, lowest_collated_above, lowest_seqno, remove_collated_above, remove_collated_masters_above}
-use Rattle.blocks_group.specs.layout.Group.{pack_group}
-use Rattle.blocks_group.specs.rules.Group.{GroupModel, below_boundary, collated_above, with_boundary, without_collated_above}
 use Rattle.cache_rules.proofs.SoundLaws.{parts}
 use Rattle.cache_rules.proofs.SoundSteps.{all_yes}
-use Rattle.cache_rules.specs.Calls.{Effect, Request, collect, done, remove_next_collated, set_boundary, unlent}
+use Rattle.cache_rules.specs.Calls.{Effect, Request, collect, done, remove_next_collated, set_boundary as set_boundary_of, unlent}
 use Rattle.cache_rules.specs.Effects.{answered, bound_one, collect_shard, do_collect, effect, outcome_of, plain, remove_ids, remove_one}
 use Rattle.cache_rules.specs.Model.{Model, ShardModel, is_shard, on_shard, shard_before, with_ids_and_range, with_shards}
 use Rattle.cache_rules.specs.Refusals.{further, sound_model}
 
 -- ===== a change of the group of one shard =====
 
-module _ (s : ShardIdent) (f : Group → Group) (h : GroupModel → GroupModel) (same : (g : GroupModel) → f (pack_group g) ≡ pack_group (h g)) where
+module _ (s : ShardIdent) (f : ShardBlocks → ShardBlocks) (h : GroupModel → GroupModel) (same : (g : GroupModel) → f (pack_group shard_parts g) ≡ pack_group shard_parts (h g)) where
   -- nothing changes where no group is of the shard
   none_changes : (gs : List ShardModel) → list_all (λ (g : ShardModel). not (is_shard s g)) gs ≡ true → on_shard s h gs ≡ gs
   none_changes [] a = refl
@@ -85,11 +87,11 @@ module _ (s : ShardIdent) (f : Group → Group) (h : GroupModel → GroupModel) 
           ∙ e ∙ append_assoc front (pack_shard g ∷ []) (map pack_shard (on_shard s h gs) ++ rest))
 
       here : less_shard g.shard s ≡ false →
-          set (front ++ (pack_shard g ∷ (map pack_shard gs ++ rest))) i (record { shard = g.shard; group = f (pack_group g.group) })
+          set (front ++ (pack_shard g ∷ (map pack_shard gs ++ rest))) i (record { shard = g.shard; group = f (pack_group shard_parts g.group) })
           ≡ front ++ (pack_shard (record { shard = g.shard; group = h g.group }) ∷ (map pack_shard (on_shard s h gs) ++ rest))
       here t =
-          set_at front (pack_shard g) (map pack_shard gs ++ rest) (record { shard = g.shard; group = f (pack_group g.group) }) i n
-          ∙ ap₂ (λ (x : Group) (ys : List ShardModel). front ++ (record { shard = g.shard; group = x } ∷ (map pack_shard ys ++ rest))) (same g.group) (sym (later_unchanged g gs t a))
+          set_at front (pack_shard g) (map pack_shard gs ++ rest) (record { shard = g.shard; group = f (pack_group shard_parts g.group) }) i n
+          ∙ ap₂ (λ (x : ShardBlocks) (ys : List ShardModel). front ++ (record { shard = g.shard; group = x } ∷ (map pack_shard ys ++ rest))) (same g.group) (sym (later_unchanged g gs t a))
 
       after : less_shard g.shard s ≡ false →
           on_place f (place_from (λ (g : ShardModel). less_shard g.shard s) (is_shard s) i (g ∷ gs)) (front ++ (map pack_shard (g ∷ gs) ++ rest))
@@ -113,9 +115,10 @@ module _ (s : ShardIdent) (f : Group → Group) (h : GroupModel → GroupModel) 
   -- on packed groups it is the model's change, packed
   pub on_shard_packed : (m : Model) → rising shard_before m.shards ≡ true → on_shard_group s f (pack m) ≡ pack (with_shards (on_shard s h m.shards) m)
   on_shard_packed m r =
-      let e = ap (λ (p : Result ℕ ℕ). on_place f p (pack m).shards) (shard_place_packed s m) ∙ on_place_packed m.shards r in
-      let n : length m.shards ≡ length (on_shard s h m.shards) = sym (length_each _ m.shards) in
-      λ i. record { zerostate_mc_seqno = m.zerostate; masters = (pack m).masters; «data» = (pack m).«data»; shards = e i; shard_count = n i }
+      let e = ap (λ (p : Result ℕ ℕ). on_place f p (pack m).shards.items) (shard_place_packed s m) ∙ on_place_packed m.shards r in
+      let n : length (map pack_shard m.shards) ≡ length (map pack_shard (on_shard s h m.shards)) =
+      length_each pack_shard m.shards ∙ sym (length_each _ m.shards) ∙ sym (length_each pack_shard (on_shard s h m.shards)) in
+      λ i. record { zerostate_mc_seqno = m.zerostate; masters = (pack m).masters; «data» = (pack m).«data»; shards = record { count = n i; items = e i } }
 
   -- the groups rise as before
   pub on_shard_rises : (gs : List ShardModel) → rising shard_before gs ≡ true → rising shard_before (on_shard s h gs) ≡ true
@@ -143,31 +146,36 @@ unfolding held_bound_one
 bound_one_packed m k r =
     on (is_masterchain (key_shard k))
     (λ t. rw t)
-    (λ t. rw t (on_shard_packed (key_shard k) (set_group_boundary k) (with_boundary k) (λ g. refl) m r))
+    (λ t. rw t (on_shard_packed (key_shard k) (set_boundary k) (with_boundary k) (λ g. refl) m r))
 
 bound_one_rises : (m : Model) (k : BlockIdShort) → rising shard_before m.shards ≡ true → rising shard_before (bound_one m k).shards ≡ true
 bound_one_rises m k r =
-    on (is_masterchain (key_shard k)) (λ t. rw t r) (λ t. rw t (on_shard_rises (key_shard k) (set_group_boundary k) (with_boundary k) (λ g. refl) m.shards r))
+    on (is_masterchain (key_shard k)) (λ t. rw t r) (λ t. rw t (on_shard_rises (key_shard k) (set_boundary k) (with_boundary k) (λ g. refl) m.shards r))
 
 pub bound_packed : (ks : List BlockIdShort) (m : Model) → sound_model m ≡ true → fold held_bound_one (pack m) ks ≡ pack (fold bound_one m ks)
 bound_packed ks m ok = keys_packed held_bound_one bound_one bound_one_packed bound_one_rises ks m (parts m ok).rest.shards.order
 
 -- ===== collect =====
 
-first_changed : {A B : Type 0} (f : A → A) (p : B → A) (h : B → B) → ((x : B) → f (p x) ≡ p (h x)) → (xs : List B) (rest : List A) →
-    changed_first (length xs) f (map p xs ++ rest) ≡ map p (map h xs) ++ rest
-first_changed f p h same [] rest = refl
-first_changed f p h same (x ∷ xs) rest = ap₂ ◌∷◌ (same x) (first_changed f p h same xs rest)
+all_changed : {A B : Type 0} (f : A → A) (p : B → A) (h : B → B) → ((x : B) → f (p x) ≡ p (h x)) → (xs : List B) → map f (map p xs) ≡ map p (map h xs)
+all_changed f p h same [] = refl
+all_changed f p h same (x ∷ xs) = ap₂ ◌∷◌ (same x) (all_changed f p h same xs)
 
 collected_shards : (gs : List ShardModel) →
-    changed_first (length gs) collect_shard_group (padded 8 zero_shard_group (map pack_shard gs)) ≡ padded 8 zero_shard_group (map pack_shard (map collect_shard gs))
+    collect_shards (packed 8 zero_shard_group (map pack_shard gs)) ≡ packed 8 zero_shard_group (map pack_shard (map collect_shard gs))
 unfolding padded
 collected_shards gs =
     let l : length (map pack_shard (map collect_shard gs)) ≡ length (map pack_shard gs) =
     length_each pack_shard (map collect_shard gs) ∙ length_each collect_shard gs ∙ sym (length_each pack_shard gs) in
-    first_changed collect_shard_group pack_shard collect_shard
-    (λ g. ap (λ (x : Group). record { shard = g.shard; group = x }) (collect_group_packed g.group)) gs (replicate (8 - length (map pack_shard gs)) zero_shard_group)
-    ∙ ap (λ (n : ℕ). map pack_shard (map collect_shard gs) ++ replicate (8 - n) zero_shard_group) (sym l)
+    let n = length (map pack_shard gs) in
+    let rest : drop n (map pack_shard gs ++ replicate (8 - n) zero_shard_group) ≡ replicate (8 - n) zero_shard_group =
+    drop-append_seam (map pack_shard gs) (replicate (8 - n) zero_shard_group) in
+    let front =
+    ap (map collect_shard_group) (listed_packed_each 8 zero_shard_group pack_shard gs)
+    ∙ all_changed collect_shard_group pack_shard collect_shard (λ g. ap (λ (x : ShardBlocks). record { shard = g.shard; group = x }) (collect_group_packed shard_parts shard_laws g.group)) gs in
+    let e = ap₂ (λ (x y : List ShardGroup). x ++ y) front rest ∙ ap (λ (k : ℕ). map pack_shard (map collect_shard gs) ++ replicate (8 - k) zero_shard_group) (sym l) in
+    let k = sym l in
+    λ i. record { count = k i; items = e i }
 
 module _ (m : Model) where
   collected_by_highest : (o : Option ℕ) → drop_collected (o) (pack m).«data» ≡ (pack (with_ids_and_range (kept_by (λ (n : ℕ) (i : BlockId). leb n i.seqno) o m.ids) m.range m)).«data»
@@ -178,29 +186,28 @@ module _ (m : Model) where
   removed_by_lowest None = refl
   removed_by_lowest (Some n) = drop_ids_from_packed n m
 
-  collected_ids : drop_collected (highest_below_boundary (pack m).masters.group) (pack m).«data» ≡ (pack (do_collect m)).«data»
+  collected_ids : drop_collected (highest_below_boundary master_parts (pack m).masters) (pack m).«data» ≡ (pack (do_collect m)).«data»
   collected_ids =
       let gone = filter (below_boundary m.masters.boundary) m.masters.entries in
-      ap (λ (o : Option ℕ). drop_collected o (pack m).«data») (highest_below_boundary_packed m.masters)
+      ap (λ (o : Option ℕ). drop_collected o (pack m).«data») (highest_below_boundary_packed master_parts master_laws m.masters)
       ∙ collected_by_highest (highest_seqno (map entry_seqno gone))
       ∙ ap (λ (ids : List BlockId). (pack (with_ids_and_range ids m.range m)).«data») (sym (below_go entry_seqno (λ (i : BlockId). i.seqno) gone m.ids))
 
-  removed_ids : (n : ℕ) → drop_removed (lowest_collated_above n (pack m).masters.group) (pack m).«data»
+  removed_ids : (n : ℕ) → drop_removed (lowest_collated_above master_parts n (pack m).masters) (pack m).«data»
       ≡ (pack (with_ids_and_range (fold remove_ids m.ids (filter (collated_above n) m.masters.entries)) m.range m)).«data»
   removed_ids n =
       let gone = filter (collated_above n) m.masters.entries in
-      ap (λ (o : Option ℕ). drop_removed o (pack m).«data») (lowest_collated_above_packed n m.masters)
+      ap (λ (o : Option ℕ). drop_removed o (pack m).«data») (lowest_collated_above_packed master_parts master_laws n m.masters)
       ∙ removed_by_lowest (lowest_seqno (map entry_seqno gone))
       ∙ ap (λ (ids : List BlockId). (pack (with_ids_and_range ids m.range m)).«data») (sym (from_go entry_seqno (λ (i : BlockId). i.seqno) gone m.ids))
 
   pub collect_packed : held_collect (pack m) ≡ pack (do_collect m)
   unfolding held_collect
   collect_packed =
-      let g = collect_masters_packed m.masters in
+      let g = collect_group_packed master_parts master_laws m.masters in
       let d = collected_ids in
       let e = collected_shards m.shards in
-      let n : length m.shards ≡ length (map collect_shard m.shards) = sym (length_each collect_shard m.shards) in
-      λ i. record { zerostate_mc_seqno = m.zerostate; masters = g i; «data» = d i; shards = e i; shard_count = n i }
+      λ i. record { zerostate_mc_seqno = m.zerostate; masters = g i; «data» = d i; shards = e i }
 
 -- ===== remove next collated =====
 
@@ -214,22 +221,22 @@ removed_masters : (n : ℕ) (m : Model) →
       shards = m.shards;
     })
 removed_masters n m =
-    let g = remove_collated_masters_above_packed m.masters n in
+    let g = remove_collated_above_packed master_parts master_laws m.masters n in
     let d = removed_ids m n in
-    λ i. record { zerostate_mc_seqno = m.zerostate; masters = g i; «data» = d i; shards = (pack m).shards; shard_count = length m.shards }
+    λ i. record { zerostate_mc_seqno = m.zerostate; masters = g i; «data» = d i; shards = (pack m).shards }
 
 remove_one_packed : (m : Model) (k : BlockIdShort) → rising shard_before m.shards ≡ true → held_remove_one (pack m) k ≡ pack (remove_one m k)
 unfolding held_remove_one
 remove_one_packed m k r =
     on (is_masterchain (key_shard k))
     (λ t. rw t (removed_masters k.seqno m))
-    (λ t. rw t (on_shard_packed (key_shard k) (remove_collated_above k.seqno) (without_collated_above k.seqno) (λ g. remove_collated_above_packed g k.seqno) m r))
+    (λ t. rw t (on_shard_packed (key_shard k) (remove_collated_above shard_parts k.seqno) (without_collated_above k.seqno) (λ g. remove_collated_above_packed shard_parts shard_laws g k.seqno) m r))
 
 remove_one_rises : (m : Model) (k : BlockIdShort) → rising shard_before m.shards ≡ true → rising shard_before (remove_one m k).shards ≡ true
 remove_one_rises m k r =
     on (is_masterchain (key_shard k))
     (λ t. rw t r)
-    (λ t. rw t (on_shard_rises (key_shard k) (remove_collated_above k.seqno) (without_collated_above k.seqno) (λ g. remove_collated_above_packed g k.seqno) m.shards r))
+    (λ t. rw t (on_shard_rises (key_shard k) (remove_collated_above shard_parts k.seqno) (without_collated_above k.seqno) (λ g. remove_collated_above_packed shard_parts shard_laws g k.seqno) m.shards r))
 
 pub remove_packed : (ks : List BlockIdShort) (m : Model) → sound_model m ≡ true → fold held_remove_one (pack m) ks ≡ pack (fold remove_one m ks)
 remove_packed ks m ok = keys_packed held_remove_one remove_one remove_one_packed remove_one_rises ks m (parts m ok).rest.shards.order
@@ -262,16 +269,15 @@ module _ (q : Request) (own : List Question) (asks : (m : Model) → further m 0
         ∙ on_sound (unlent q) (λ (x : Cache). change_outcome (done_with (f x))) (λ m. []) change_packed c (all_yes (questions_on c (unlent q)) n).0
         ∙ ap (λ (o : Option Refusal). answered_on o c (unlent q)) (sym n)
 
-    pub change_refuses : (n : Refusal) → a ≡ Err n → change_outcome (record { answer = a; cache = c }) ≡ call_on c (unlent q)
-    change_refuses n h =
-        ap (λ (x : Result ⊤ Refusal). change_outcome (record { answer = x; cache = c })) h ∙ sym (no_leaves c (unlent q) n (asked ∙ ap err_of h))
+    pub change_refuses : (n : Refusal) → a ≡ Err n → change_outcome (record { answer = Err n; cache = c }) ≡ call_on c (unlent q)
+    change_refuses n h = sym (no_leaves c (unlent q) n (asked ∙ ap err_of h))
 
 -- their questions and effects
-pub asks_boundary : (ks : Keys) (m : Model) → further m 0 (set_boundary ks) ≡ keys_questions ks
+pub asks_boundary : (ks : Keys) (m : Model) → further m 0 (set_boundary_of ks) ≡ keys_questions ks
 unfolding further
 asks_boundary ks m = refl
 
-pub sets_boundary : (ks : Keys) (m : Model) → effect m (set_boundary ks) ≡ plain done (fold bound_one m (listed_keys ks))
+pub sets_boundary : (ks : Keys) (m : Model) → effect m (set_boundary_of ks) ≡ plain done (fold bound_one m (listed_keys ks))
 unfolding effect
 sets_boundary ks m = refl
 
@@ -293,146 +299,53 @@ removes ks m = refl
 
 -- ===== the steps of the code =====
 
--- a group replaced by another of its shard leaves each shard in its place; d is any group
-shards_stay : (gs : List ShardGroup) (k : ℕ) (d : ShardGroup) (g : Group) → map shard_ident (set gs k (record { shard = (get_or gs k d).shard; group = g })) ≡ map shard_ident gs
-shards_stay [] k d g = refl
-shards_stay (x ∷ xs) zero d g = refl
-shards_stay (x ∷ xs) (suc k) d g = ap (λ (r : List ShardIdent). x.shard ∷ r) (shards_stay xs k d g)
+-- one item more is folded, of those that are left
+module _ {A B : Type 0} (f : B → A → B) (xs : List A) (i : ℕ) where
+  pub fold_next : (b : B) (d : A) → i < length xs → fold f b (drop i xs) ≡ fold f (f b (get_or xs i d)) (drop (i + 1) xs)
+  fold_next b d h = ap (fold f b) (drop_next xs i d h)
 
--- The keys from place i on make of the cache so far what all make of the first; its shards stand where they stood.
-pub record KeysLeft (f : Cache → BlockIdShort → Cache) (idents : List ShardIdent) (ks : List BlockIdShort) (count : ℕ) (first so_far : Cache) (i : ℕ) : Type 0 where
-  pub within : i ≤ 9
-  pub long : length so_far.shards ≡ 8
-  pub stay : map shard_ident so_far.shards ≡ idents
-  pub rest : fold f first (take count ks) ≡ fold f so_far (left ks count i)
+  pub fold_end : (b : B) → length xs ≤ i → fold f b (drop i xs) ≡ b
+  fold_end b h = ap (fold f b) (drop_all i xs h)
 
-module _ (f : Cache → BlockIdShort → Cache) (idents : List ShardIdent) (ks : List BlockIdShort) (nine : length ks ≡ 9) (count : ℕ) (first : Cache) where
-  pub keys_start : length first.shards ≡ 8 → idents ≡ map shard_ident first.shards → KeysLeft f idents ks count first first 0
-  keys_start n e =
-      record { within = omega arith; long = n; stay = sym e; rest = ap (fold f first) (sym (left_start ks count)) }
+-- The group of one shard changed in its place; d is what would be read past the places.
+module _ (s : ShardIdent) (f : ShardBlocks → ShardBlocks) (c : Cache) (k : ℕ) where
+  pub shard_unknown : shard_place s (listed c.shards) ≡ Err k → c ≡ on_shard_group s f c
+  shard_unknown e = ap (λ (p : Result ℕ ℕ). with_shard_groups (on_place f p c.shards.items) c) (sym e)
 
-  module _ (c : Cache) (i : ℕ) (v : KeysLeft f idents ks count first c i) where
-    -- one key more
-    pub keys_next : (d : BlockIdShort) → i < 9 → i < count → (r : Cache) → r ≡ f c (get_or ks i d) → length r.shards ≡ 8 → map shard_ident r.shards ≡ idents →
-        KeysLeft f idents ks count first r (i + 1)
-    keys_next d h k r e n x =
-        record {
-          within = omega arith;
-          long = n;
-          stay = x;
-          rest = v.rest ∙ ap (fold f c) (left_more ks count i d (omega arith) k) ∙ ap (λ (y : Cache). fold f y (left ks count (i + 1))) (sym e);
-        }
+  pub shard_known : (d : ShardGroup) → shard_place s (listed c.shards) ≡ Ok k →
+      with_shard_groups (set c.shards.items k (record { shard = (get_or c.shards.items k d).shard; group = f (get_or c.shards.items k d).group })) c ≡ on_shard_group s f c
+  shard_known d e =
+      let l : k < length c.shards.items = omega (arith, shard_place_listed s (listed c.shards) k e, length_take_few c.shards.count c.shards.items) in
+      ap (λ (x : ShardGroup). with_shard_groups (set c.shards.items k (record { shard = x.shard; group = f x.group })) c) (get_d_any c.shards.items k d zero_shard_group l)
+      ∙ ap (λ (p : Result ℕ ℕ). with_shard_groups (on_place f p c.shards.items) c) (sym e)
 
-    -- none is left
-    pub keys_passed : count ≤ i → c ≡ fold f first (take count ks)
-    keys_passed h = sym (v.rest ∙ ap (fold f c) (left_passed ks count i h))
-
-    pub keys_over : 9 ≤ i → c ≡ fold f first (take count ks)
-    keys_over h = sym (v.rest ∙ ap (fold f c) (left_over ks count i (omega arith)))
-
--- The group of one shard changed in its place, which is found among the shards.
-module _ (idents : List ShardIdent) (c : Cache) (long : length c.shards ≡ 8) (stay : map shard_ident c.shards ≡ idents) (s : ShardIdent) (k : ℕ) where
-  abbrev found : Result ℕ ℕ
-  found = ident_place s c.shard_count idents
-
-  stands : (p : Result ℕ ℕ) → found ≡ p → shard_place s c.shard_count c.shards ≡ p
-  stands p e = sym (idents_place s c.shard_count c.shards) ∙ ap (ident_place s c.shard_count) stay ∙ e
-
-  pub found_listed : found ≡ Ok k → k < 8
-  found_listed e = shard_place_listed s c long k (stands (Ok k) e)
-
-  pub found_long : (g : ShardGroup) → length (set c.shards k g) ≡ 8
-  found_long g = length-set c.shards k g ∙ long
-
-  -- d is any group
-  pub found_stay : (d : ShardGroup) (g : Group) → map shard_ident (set c.shards k (record { shard = (get_or c.shards k d).shard; group = g })) ≡ idents
-  found_stay d g = shards_stay c.shards k d g ∙ stay
-
-  module _ (f : Group → Group) where
-    pub shard_unknown : found ≡ Err k → c ≡ on_shard_group s f c
-    shard_unknown e = ap (λ (p : Result ℕ ℕ). with_shard_groups (on_place f p c.shards) c) (sym (stands (Err k) e))
-
-    pub shard_known : found ≡ Ok k → (d : ShardGroup) (g : Group) → g ≡ f (get_or c.shards k d).group →
-        with_shard_groups (set c.shards k (record { shard = (get_or c.shards k d).shard; group = g })) c ≡ on_shard_group s f c
-    shard_known e d g eg =
-        let l = found_listed e in
-        ap (λ (x : Group). with_shard_groups (set c.shards k (record { shard = (get_or c.shards k d).shard; group = x })) c) eg
-        ∙ ap (λ (x : ShardGroup). with_shard_groups (set c.shards k (record { shard = x.shard; group = f x.group })) c) (get_d_any c.shards k d zero_shard_group (omega arith))
-        ∙ ap (λ (p : Result ℕ ℕ). with_shard_groups (on_place f p c.shards) c) (sym (stands (Ok k) e))
-
--- the first elements changed, one by one
+-- the first n elements changed, the others as they were: one by one
 module _ {A : Type 0} (f : A → A) where
-  first_suc : (d : A) (xs : List A) (i : ℕ) → i < length xs → set (changed_first i f xs) i (f (get_or xs i d)) ≡ changed_first (suc i) f xs
+  abbrev pub changed_first : ℕ → List A → List A
+  changed_first zero xs = xs
+  changed_first (suc n) [] = []
+  changed_first (suc n) (x ∷ xs) = f x ∷ changed_first n xs
+
+  first_suc : (d : A) (xs : List A) (i : ℕ) → i < length xs → set (changed_first i xs) i (f (get_or xs i d)) ≡ changed_first (suc i) xs
   first_suc d [] i h = absurd (not-suc-le-zero h)
   first_suc d (x ∷ xs) zero h = refl
   first_suc d (x ∷ xs) (suc i) h = ap (λ (r : List A). f x ∷ r) (first_suc d xs i (le_of_suc-le-suc h))
 
-  first_more : (d : A) (xs : List A) (i : ℕ) → i < length xs → set (changed_first i f xs) i (f (get_or xs i d)) ≡ changed_first (i + 1) f xs
-  first_more d xs i h = rw (add-one i) (first_suc d xs i h)
-
   -- the next one is still as it was
-  next_unchanged : (d : A) (xs : List A) (i : ℕ) → get_or (changed_first i f xs) i d ≡ get_or xs i d
+  next_unchanged : (d : A) (xs : List A) (i : ℕ) → get_or (changed_first i xs) i d ≡ get_or xs i d
   next_unchanged d xs zero = refl
   next_unchanged d [] (suc i) = refl
   next_unchanged d (x ∷ xs) (suc i) = next_unchanged d xs i
 
-  pub changed_first_over : (xs : List A) (i n : ℕ) → length xs ≤ i → length xs ≤ n → changed_first i f xs ≡ changed_first n f xs
-  changed_first_over [] zero zero h k = refl
-  changed_first_over [] zero (suc n) h k = refl
-  changed_first_over [] (suc i) zero h k = refl
-  changed_first_over [] (suc i) (suc n) h k = refl
-  changed_first_over (x ∷ xs) zero n h k = absurd (not-suc-le-zero h)
-  changed_first_over (x ∷ xs) (suc i) zero h k = absurd (not-suc-le-zero k)
-  changed_first_over (x ∷ xs) (suc i) (suc n) h k = ap (λ (r : List A). f x ∷ r) (changed_first_over xs i n (le_of_suc-le-suc h) (le_of_suc-le-suc k))
+  -- as many as are listed
+  pub change_end : (xs : List A) (n : ℕ) → changed_first (length (take n xs)) xs ≡ map f (take n xs) ++ drop n xs
+  change_end xs zero = refl
+  change_end [] (suc n) = refl
+  change_end (x ∷ xs) (suc n) = ap (λ (r : List A). f x ∷ r) (change_end xs n)
 
--- one group more is collected; d is any group
-pub collected_next : (d : ShardGroup) (gs : List ShardGroup) (i : ℕ) → i < length gs → (out : List ShardGroup) → out ≡ changed_first i collect_shard_group gs → (g : Group) →
-    g ≡ collect_group (get_or out i d).group → set out i (record { shard = (get_or out i d).shard; group = g }) ≡ changed_first (i + 1) collect_shard_group gs
-collected_next d gs i h out eo g eg =
-    let r : get_or out i d ≡ get_or gs i d = ap (λ (o : List ShardGroup). get_or o i d) eo ∙ next_unchanged collect_shard_group d gs i in
-    ap (λ (x : Group). set out i (record { shard = (get_or out i d).shard; group = x })) eg
-    ∙ ap₂ (λ (o : List ShardGroup) (x : ShardGroup). set o i (collect_shard_group x)) eo r ∙ first_more collect_shard_group d gs i h
-
--- question 1, then those of the keys
-module _ (ks : Keys) (c : Cache) where
-  pub keys_unsound : sound_cache c ≡ false → Err Unsound ≡ keys_answer ks c
-  keys_unsound t = rw t
-
-  pub keys_answered : sound_cache c ≡ true → (r : Result ⊤ Refusal) → r ≡ passed (first_no (keys_questions ks)) → r ≡ keys_answer ks c
-  keys_answered t r e = rw t e
-
--- a key of the masterchain, or of a shard
-module _ (c : Cache) (k : BlockIdShort) (s : ShardIdent) (e : s ≡ key_shard k) where
-  side : {b : Bool} → is_masterchain s ≡ b → is_masterchain (key_shard k) ≡ b
-  side t = ap is_masterchain (sym e) ∙ t
-
-  pub bounds_masters : is_masterchain s ≡ true → (g : MasterGroup) → g ≡ set_master_boundary k c.masters → with_master_group g c ≡ held_bound_one c k
-  unfolding held_bound_one
-  bounds_masters t g eg = rw (side t) (ap (λ (x : MasterGroup). with_master_group x c) eg)
-
-  module _ (r : Cache) where
-    pub bounds_shard : is_masterchain s ≡ false → r ≡ on_shard_group s (set_group_boundary k) c → r ≡ held_bound_one c k
-    unfolding held_bound_one
-    bounds_shard t er = rw (side t) (er ∙ ap (λ (x : ShardIdent). on_shard_group x (set_group_boundary k) c) e)
-
-    pub removes_masters : is_masterchain s ≡ true → r ≡ held_remove_masters k.seqno c → r ≡ held_remove_one c k
-    unfolding held_remove_one
-    removes_masters t er = rw (side t) er
-
-    pub removes_shard : is_masterchain s ≡ false → r ≡ on_shard_group s (remove_collated_above k.seqno) c → r ≡ held_remove_one c k
-    unfolding held_remove_one
-    removes_shard t er = rw (side t) (er ∙ ap (λ (x : ShardIdent). on_shard_group x (remove_collated_above k.seqno) c) e)
-
--- the parts of a collected cache
-pub collect_made : (c : Cache) (h : Option ℕ) (g : MasterGroup) (d : MasterData) (gs : List ShardGroup) → h ≡ highest_below_boundary c.masters.group →
-    g ≡ collect_masters c.masters → d ≡ drop_collected h c.«data» → gs ≡ changed_first c.shard_count collect_shard_group c.shards →
-    record { zerostate_mc_seqno = c.zerostate_mc_seqno; masters = g; «data» = d; shards = gs; shard_count = c.shard_count } ≡ held_collect c
-unfolding held_collect
-collect_made c h g d gs eh eg ed es =
-    let x = ed ∙ ap (λ (o : Option ℕ). drop_collected o c.«data») eh in
-    λ i. record { zerostate_mc_seqno = c.zerostate_mc_seqno; masters = eg i; «data» = x i; shards = es i; shard_count = c.shard_count }
-
--- .. and of one without the masters removed
-pub remove_made : (n : ℕ) (c : Cache) (l : Option ℕ) (g : MasterGroup) (d : MasterData) → l ≡ lowest_collated_above n c.masters.group →
-    g ≡ remove_collated_masters_above n c.masters → d ≡ drop_removed l c.«data» → with_master_data d (with_master_group g c) ≡ held_remove_masters n c
-remove_made n c l g d el eg ed = rw (eg, ed, el)
+-- one group more is collected; d is what would be read past the places
+pub collected_next : (d : ShardGroup) (xs ys : List ShardGroup) (i : ℕ) → i < length xs → ys ≡ changed_first collect_shard_group i xs → (g : ShardBlocks) →
+    g ≡ collect_group shard_parts (get_or xs i d).group → set ys i (record { shard = (get_or ys i d).shard; group = g }) ≡ changed_first collect_shard_group (i + 1) xs
+collected_next d xs ys i h e g eg =
+    let r = ap (λ (o : List ShardGroup). get_or o i d) e ∙ next_unchanged collect_shard_group d xs i in
+    (λ k. set (e k) i (record { shard = (r k).shard; group = eg k })) ∙ rw (add-one i) (first_suc collect_shard_group d xs i h)

@@ -1,6 +1,6 @@
 -- The place that a lookup gives, on a sound cache: where it finds a block, it is the one that the rules look up among those still cached.
 -- Assumes nothing.
-use Rattle.std.specs.Prelude.{Option, option_map, None, Some, map, Err, Ok, Result}
+use Rattle.std.specs.Prelude.{Option, option_map, None, Some, map}
 use Rattle.std.proofs.Common.{◌≡◌, ℕ, ◌-◌, ◌<◌, ◌≤◌, true, ◌⊎◌, List, ◌++◌, length, get_or, replicate, sym, refl, ap, ◌∙◌, subst, ap₂, subst₂, inl, inr, arith, length-append, leb-true}
 use lib.ListN.{get_or-append, length-replicate}
 use Rattle.block_records.specs.declared.block_id.BlockId.{BlockId}
@@ -11,14 +11,14 @@ use Rattle.blocks_cache.specs.declared.cache.ShardGroup.{ShardGroup}
 use Rattle.blocks_cache.specs.declared.lookup.GroupSeqnos.{GroupSeqnos}
 use Rattle.block_records.proofs.arrays.ArrayLaws.{all_get_d, get_d_any, getD_each}
 use Rattle.block_records.proofs.rules.ListLaws.{length_each}
-use Rattle.block_records.specs.arrays.Place.{first_place}
+use Rattle.std.specs.List.{position}
 use Rattle.block_records.specs.layout.Entry.{pack_entry, view_shard_entry}
 use Rattle.block_records.specs.layout.Zeros.{zero_entry}
 use Rattle.block_records.specs.rules.BlockId.{id_shard, key}
 use Rattle.block_records.specs.rules.Entry.{Entry}
 use Rattle.block_records.specs.rules.Lists.{padded}
 use Rattle.blocks_cache.proofs.arrays.CachedSeqnoLaws.{Indexed, Numbered, cached_within, first_indexed, first_now, found_cached, listed_or_empty, lookup_in, no_shard_cached, none_cached, none_in_empty, now_shards, numbered_in}
-use Rattle.blocks_cache.proofs.arrays.ExtractionLaws.{FirstAt, Placed, first_at, none_passes, placed}
+use Rattle.blocks_cache.proofs.arrays.FirstPlaceLaws.{FirstAt, Placed, first_at, none_passes, placed}
 use Rattle.blocks_cache.proofs.layout.CacheLaws.{pack_sound, sound_cache_packed, view_pack}
 use Rattle.blocks_cache.specs.arrays.Lookup.{block_place, cached_at, cached_block, no_seqnos, place_in, place_of, placed_block, shard_seqnos}
 use Rattle.blocks_cache.specs.arrays.Shards.{ident_at, shard_ident}
@@ -42,32 +42,32 @@ module _ (c : Cache) (ok : sound_cache c ≡ true) where
   spare = 8 - length (map pack_shard gs)
 
   -- the groups as they are held
-  pub held_is : c.shards ≡ map pack_shard (view c).shards ++ replicate (8 - length (map pack_shard (view c).shards)) zero_shard_group
+  pub held_is : c.shards.items ≡ map pack_shard (view c).shards ++ replicate (8 - length (map pack_shard (view c).shards)) zero_shard_group
   unfolding padded
-  held_is = ap (λ (x : Cache). x.shards) (sound_cache_packed c ok).0
+  held_is = ap (λ (x : Cache). x.shards.items) (sound_cache_packed c ok).0
 
   -- ===== before a block has left =====
 
-  pub first_index : Indexed (map shard_ident c.shards) (map shard_seqnos c.shards) (view c).shards
+  pub first_index : Indexed (map shard_ident c.shards.items) (map shard_seqnos c.shards.items) (view c).shards
   first_index =
       subst₂ (λ (x : List ShardIdent) (y : List GroupSeqnos). Indexed x y gs) (sym (ap (map shard_ident) held_is)) (sym (ap (map shard_seqnos) held_is)) (first_indexed spare gs)
 
-  pub all_cached : now_shards (map shard_seqnos c.shards) (view c).shards ≡ (view c).shards
+  pub all_cached : now_shards (map shard_seqnos c.shards.items) (view c).shards ≡ (view c).shards
   all_cached = ap (λ (x : List ShardGroup). now_shards (map shard_seqnos x) gs) held_is ∙ first_now (replicate spare zero_shard_group) gs
 
-  pub eight_groups : length (map shard_seqnos c.shards) ≡ 8
+  pub eight_groups : length (map shard_seqnos c.shards.items) ≡ 8
   eight_groups =
-      length_each shard_seqnos c.shards ∙ ap length held_is
+      length_each shard_seqnos c.shards.items ∙ ap length held_is
       ∙ omega (arith, length-append (map pack_shard gs) (replicate spare zero_shard_group), length_each pack_shard gs, few_groups, length-replicate spare zero_shard_group)
 
   -- ===== a place =====
 
   module _ (id : BlockId) (idents : List ShardIdent) (seqnos : List GroupSeqnos) (index : Indexed idents seqnos (view c).shards) where
-    abbrev found_here : Result ℕ ℕ
-    found_here = first_place (ident_at (id_shard id)) 0 idents
+    abbrev found_here : Option ℕ
+    found_here = position (ident_at (id_shard id)) idents
 
     -- the group of its shard has place k
-    module _ (k : ℕ) (f : first_place (ident_at (id_shard id)) 0 idents ≡ Ok k) where
+    module _ (k : ℕ) (f : position (ident_at (id_shard id)) idents ≡ Some k) where
       abbrev g : ShardModel
       g = get_or gs k (view_shard zero_shard_group)
 
@@ -77,22 +77,22 @@ module _ (c : Cache) (ok : sound_cache c ≡ true) where
       pub group_here : FirstAt (ident_at (id_shard id)) idents k
       group_here = first_at (ident_at (id_shard id)) idents k f
 
-      no_entry : (j : ℕ) → first_place (cached_at id.seqno) 0 s.entries ≡ Err j → block_under (now_shards seqnos gs) (key id) ≡ None
-      no_entry j q = by (listed_or_empty id idents seqnos gs k no_seqnos group_here index)
+      no_entry : position (cached_at id.seqno) s.entries ≡ None → block_under (now_shards seqnos gs) (key id) ≡ None
+      no_entry q = by (listed_or_empty id idents seqnos gs k no_seqnos group_here index)
         where
           by : (k < length gs) ⊎ ((s ≡ no_seqnos) × (block_under (now_shards seqnos gs) (key id) ≡ None)) → block_under (now_shards seqnos gs) (key id) ≡ None
           by (inl l) =
               lookup_in id idents seqnos gs k no_seqnos (view_shard zero_shard_group) group_here index l
-              ∙ none_cached id.seqno s.entries g.group.entries (none_passes (cached_at id.seqno) s.entries j q)
+              ∙ none_cached id.seqno s.entries g.group.entries (none_passes (cached_at id.seqno) s.entries q)
               (numbered_in id idents seqnos gs k no_seqnos (view_shard zero_shard_group) index l)
           by (inr e) = e.1
 
-      absent_in : (o : Result ℕ ℕ) → first_place (cached_at id.seqno) 0 s.entries ≡ o → place_in k o ≡ None → block_under (now_shards seqnos gs) (key id) ≡ None
-      absent_in (Ok j) q e = let z : ◌≡◌ {A = ℕ} 0 1 = cc in absurd (omega arith)
-      absent_in (Err j) q e = no_entry j q
+      absent_in : (o : Option ℕ) → position (cached_at id.seqno) s.entries ≡ o → place_in k o ≡ None → block_under (now_shards seqnos gs) (key id) ≡ None
+      absent_in (Some j) q e = let z : ◌≡◌ {A = ℕ} 0 1 = cc in absurd (omega arith)
+      absent_in None q e = no_entry q
 
       -- .. and its entry place j in it
-      module _ (j : ℕ) (q : first_place (cached_at id.seqno) 0 (get_or seqnos k no_seqnos).entries ≡ Ok j) where
+      module _ (j : ℕ) (q : position (cached_at id.seqno) (get_or seqnos k no_seqnos).entries ≡ Some j) where
         pub entry_here : FirstAt (cached_at id.seqno) (get_or seqnos k no_seqnos).entries j
         entry_here = first_at (cached_at id.seqno) s.entries j q
 
@@ -131,20 +131,20 @@ module _ (c : Cache) (ok : sound_cache c ≡ true) where
         at_entry = omega (arith, entry_listed, leb-true (length es) 16 (shard_parts g found_group_sound).count)
 
         -- the block that the code reads; y and x are what the arrays would give past their ends
-        pub block_read : (y : ShardGroup) (x : BlockCacheEntry) → get_or (get_or c.shards k y).group.entries j x ≡ pack_entry block_at
+        pub block_read : (y : ShardGroup) (x : BlockCacheEntry) → get_or (get_or c.shards.items k y).group.entries.items j x ≡ pack_entry block_at
         unfolding padded
         block_read y x =
             let a : k < length (map pack_shard gs) = omega (arith, length_each pack_shard gs, group_listed) in
-            let p : get_or c.shards k y ≡ pack_shard g =
+            let p : get_or c.shards.items k y ≡ pack_shard g =
             ap (λ (l : List ShardGroup). get_or l k y) held_is ∙ get_or-append (map pack_shard gs) (replicate spare zero_shard_group) y k a
             ∙ get_d_any (map pack_shard gs) k y (pack_shard (view_shard zero_shard_group)) a ∙ getD_each pack_shard gs k (view_shard zero_shard_group) in
             let n : j < length (map pack_entry es) = omega (arith, length_each pack_entry es, entry_listed) in
-            ap (λ (z : ShardGroup). get_or z.group.entries j x) p ∙ get_or-append (map pack_entry es) (replicate (16 - length (map pack_entry es)) zero_entry) x j n
+            ap (λ (z : ShardGroup). get_or z.group.entries.items j x) p ∙ get_or-append (map pack_entry es) (replicate (16 - length (map pack_entry es)) zero_entry) x j n
             ∙ get_d_any (map pack_entry es) j x (pack_entry (view_shard_entry zero_entry)) n ∙ getD_each pack_entry es j (view_shard_entry zero_entry)
 
-    absent_of : (o : Result ℕ ℕ) → found_here ≡ o → place_of id seqnos o ≡ None → block_under (now_shards seqnos gs) (key id) ≡ None
-    absent_of (Ok k) f e = absent_in k f (first_place (cached_at id.seqno) 0 (get_or seqnos k no_seqnos).entries) refl e
-    absent_of (Err k) f e = no_shard_cached id idents seqnos gs (none_passes (ident_at (id_shard id)) idents k f) index
+    absent_of : (o : Option ℕ) → found_here ≡ o → place_of id seqnos o ≡ None → block_under (now_shards seqnos gs) (key id) ≡ None
+    absent_of (Some k) f e = absent_in k f (position (cached_at id.seqno) (get_or seqnos k no_seqnos).entries) refl e
+    absent_of None f e = no_shard_cached id idents seqnos gs (none_passes (ident_at (id_shard id)) idents f) index
 
     pub absent_looked_up : block_place id idents seqnos ≡ None → block_under (now_shards seqnos (view c).shards) (key id) ≡ None
     unfolding block_place
@@ -152,7 +152,7 @@ module _ (c : Cache) (ok : sound_cache c ≡ true) where
 
   -- ===== the block of an id =====
 
-  module _ (i : BlockId) (idents : List ShardIdent) (seqnos : List GroupSeqnos) (of_shards : idents ≡ map shard_ident c.shards) (of_groups : seqnos ≡ map shard_seqnos c.shards) where
+  module _ (i : BlockId) (idents : List ShardIdent) (seqnos : List GroupSeqnos) (of_shards : idents ≡ map shard_ident c.shards.items) (of_groups : seqnos ≡ map shard_seqnos c.shards.items) where
     index_is : Indexed idents seqnos gs
     index_is = subst₂ (λ (x : List ShardIdent) (y : List GroupSeqnos). Indexed x y gs) (sym of_shards) (sym of_groups) first_index
 
@@ -162,12 +162,12 @@ module _ (c : Cache) (ok : sound_cache c ≡ true) where
     rules_say : (o : Option Entry) → block_under (now_shards seqnos gs) (key i) ≡ o → block_under gs (key i) ≡ o
     rules_say o e = ap (λ (x : List ShardModel). block_under x (key i)) (sym now_is) ∙ e
 
-    cached_is : placed_block (block_place i idents seqnos) c.shards ≡ cached_block i c
+    cached_is : placed_block (block_place i idents seqnos) c.shards.items ≡ cached_block i c
     unfolding cached_block
-    cached_is = ap₂ (λ (x : List ShardIdent) (y : List GroupSeqnos). placed_block (block_place i x y) c.shards) of_shards of_groups
+    cached_is = ap₂ (λ (x : List ShardIdent) (y : List GroupSeqnos). placed_block (block_place i x y) c.shards.items) of_shards of_groups
 
     pub not_cached : block_place i idents seqnos ≡ None → cached_block i c ≡ None
-    not_cached e = sym cached_is ∙ ap (λ (p : Option (ℕ × ℕ)). placed_block p c.shards) e
+    not_cached e = sym cached_is ∙ ap (λ (p : Option (ℕ × ℕ)). placed_block p c.shards.items) e
 
     module _ (k j : ℕ) (e : block_place i idents seqnos ≡ Some (k, j)) where
       p : Placed i idents seqnos k j
@@ -180,23 +180,23 @@ module _ (c : Cache) (ok : sound_cache c ≡ true) where
       cached_entry_within = at_entry i idents seqnos index_is k p.group j p.entry
 
       -- y and x are what the arrays would give past their ends
-      pub cached_at_place : (y : ShardGroup) (x : BlockCacheEntry) → cached_block i c ≡ Some (get_or (get_or c.shards k y).group.entries j x)
+      pub cached_at_place : (y : ShardGroup) (x : BlockCacheEntry) → cached_block i c ≡ Some (get_or (get_or c.shards.items k y).group.entries.items j x)
       cached_at_place y x =
-          sym cached_is ∙ ap (λ (q : Option (ℕ × ℕ)). placed_block q c.shards) e
+          sym cached_is ∙ ap (λ (q : Option (ℕ × ℕ)). placed_block q c.shards.items) e
           ∙ ap Some (block_read i idents seqnos index_is k p.group j p.entry zero_shard_group zero_entry ∙ sym (block_read i idents seqnos index_is k p.group j p.entry y x))
 
-      found_looked_up : placed_block (Some (k, j)) c.shards ≡ option_map pack_entry (block_under gs (key i))
+      found_looked_up : placed_block (Some (k, j)) c.shards.items ≡ option_map pack_entry (block_under gs (key i))
       found_looked_up =
           ap Some (block_read i idents seqnos index_is k p.group j p.entry zero_shard_group zero_entry)
           ∙ ap (option_map pack_entry) (sym (rules_say _ (block_looked_up i idents seqnos index_is k p.group j p.entry)))
 
-    looked_up_by : (q : Option (ℕ × ℕ)) → block_place i idents seqnos ≡ q → placed_block q c.shards ≡ option_map pack_entry (block_under gs (key i))
+    looked_up_by : (q : Option (ℕ × ℕ)) → block_place i idents seqnos ≡ q → placed_block q c.shards.items ≡ option_map pack_entry (block_under gs (key i))
     looked_up_by (Some (k, j)) e = found_looked_up k j e
     looked_up_by None e = ap (option_map pack_entry) (sym (rules_say None (absent_looked_up i idents seqnos index_is e)))
 
   cached_block_is : (i : BlockId) → cached_block i c ≡ option_map pack_entry (block_under (view c).shards (key i))
   unfolding cached_block
-  cached_block_is i = looked_up_by i (map shard_ident c.shards) (map shard_seqnos c.shards) refl refl (block_place i (map shard_ident c.shards) (map shard_seqnos c.shards)) refl
+  cached_block_is i = looked_up_by i (map shard_ident c.shards.items) (map shard_seqnos c.shards.items) refl refl (block_place i (map shard_ident c.shards.items) (map shard_seqnos c.shards.items)) refl
 
 -- on a packed cache the block of an id is the one that the rules look up, packed
 pub cached_block_packed : (m : Model) → sound_model m ≡ true → (i : BlockId) → cached_block i (pack m) ≡ option_map pack_entry (block_under m.shards (key i))

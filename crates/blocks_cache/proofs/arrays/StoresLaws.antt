@@ -1,73 +1,42 @@
--- What both stores of the whole cache share: the cases of an answer, the group of a shard as it is held, and the call's questions in two parts.
+-- What both stores of the whole cache share: results that leave nothing free, the group of a shard as it is held, and the call's questions in two parts.
 -- Assumes nothing.
 use Rattle.block_records.specs.declared.range.AppliedRange.{AppliedRange}
-use Rattle.block_records.specs.declared.questions.Refusal.TheVariants.{Unsound}
-use Rattle.std.specs.Prelude.{Option, None, Some, map, cond, is_some, Err, Ok, Result, ⊤}
-use Rattle.std.proofs.Common.{◌≡◌, ℕ, ◌<◌, ◌≤◌, Bool, true, false, ◌||◌, ltb, List, [], ◌++◌, length, get_or, sym, refl, ap, ◌∙◌, arith, get_or-take, leb-true}
+use Rattle.block_records.specs.declared.questions.Refusal.TheVariants.{NoRoom, Unsound}
+use Rattle.std.specs.Prelude.{Option, option_map, None, Some, map, cond, is_some, Err, Ok, Result, ⊤}
+use Rattle.std.proofs.Common.{◌≡◌, ℕ, ◌≤◌, Bool, true, false, ◌||◌, ltb, List, [], ◌++◌, length, sym, refl, ap, ◌∙◌, arith, leb-true}
 use Rattle.block_records.specs.declared.block_id.BlockId.{BlockId}
 use Rattle.block_records.specs.declared.block_id.ShardIdent.{ShardIdent}
 use Rattle.block_records.specs.declared.questions.Refusal.{Refusal}
-use Rattle.blocks_cache.specs.declared.cache.Cache.{Cache}
-use Rattle.blocks_cache.specs.declared.cache.ShardGroup.{ShardGroup}
-use Rattle.blocks_cache.specs.declared.shards.Shards.{Shards}
-use Rattle.blocks_cache.specs.declared.stores.BlockCacheStoreResult.{BlockCacheStoreResult}
-use Rattle.blocks_cache.specs.declared.stores.ShardHeld.{ShardHeld}
-use Rattle.blocks_group.specs.declared.group.Group.{Group}
 use Rattle.blocks_group.specs.declared.store.StoreAnswer.{StoreAnswer}
 use Rattle.blocks_group.specs.declared.store.StoreAnswer.TheVariants.{Stored as stored_answer, Synced as synced_answer}
-use Rattle.block_records.proofs.arrays.ArrayLaws.{each_put, get_d_any, getD_each}
-use Rattle.block_records.proofs.arrays.PlaceLaws.{at_within, element_at}
+use Rattle.blocks_cache.specs.declared.cache.Cache.{Cache}
+use Rattle.blocks_cache.specs.declared.cache.ShardGroup.{ShardGroup}
+use Rattle.blocks_cache.specs.declared.stores.BlockCacheStoreResult.{BlockCacheStoreResult}
+use Rattle.block_records.proofs.arrays.ArrayLaws.{each_put}
 use Rattle.block_records.proofs.rules.ListLaws.{length_each}
 use Rattle.block_records.proofs.rules.Tests.{clash, on}
 use Rattle.block_records.specs.rules.BlockId.{id_shard, is_masterchain, less_shard}
-use Rattle.block_records.specs.rules.Lists.{last, padded, put}
+use Rattle.block_records.specs.rules.Lists.{last, put, rising}
 use Rattle.block_records.specs.rules.Questions.{Question, first_no, passed}
+use Rattle.blocks_group.proofs.arrays.StoreLaws.{model_room}
+use Rattle.blocks_group.proofs.rules.GroupLaws.{GroupParts, group_parts}
+use Rattle.blocks_group.specs.layout.Block.{master_parts, shard_parts}
+use Rattle.blocks_group.specs.layout.Group.{ShardBlocks, held_empty_group as no_blocks, pack_group}
+use Rattle.blocks_group.specs.rules.Group.{GroupModel, entry_before}
+use Rattle.blocks_group.specs.rules.Soundness.{of_shard}
 use Rattle.blocks_cache.proofs.arrays.MasterDataLaws.{highest_id_packed}
-use Rattle.blocks_cache.proofs.arrays.ShardsLaws.{find_shard_packed, put_shard_packed, shard_listed, shard_place_packed}
+use Rattle.blocks_cache.proofs.arrays.ShardsLaws.{listed_packed, listed_shard_packed, put_shard_packed}
 use Rattle.blocks_cache.proofs.layout.CallLaws.{unsound_answers_1, err_of}
 use Rattle.blocks_cache.proofs.layout.CallOnLaws.{first_part_refuses, second_part_decides}
 use Rattle.blocks_cache.specs.arrays.MasterData.{highest_id}
-use Rattle.blocks_cache.specs.arrays.Shards.{shard_place}
-use Rattle.blocks_cache.specs.arrays.Stores.{held_at, nothing_stored, shard_held, store_outcome, stored_in, with_shard_group, zeroed_store, stored_mismatch}
-use Rattle.blocks_cache.specs.layout.Cache.{HeldOutcome, answered_on, call_on, pack, pack_outcome, pack_shard, sound_cache, view, zero_shard_group}
-use Rattle.blocks_group.proofs.arrays.StoreLaws.{model_room}
-use Rattle.blocks_group.proofs.layout.GroupLaws.{take_padded_each}
-use Rattle.blocks_group.proofs.rules.GroupLaws.{GroupParts, group_parts}
-use Rattle.blocks_group.specs.layout.Group.{pack_group, pack_master_group, zero_group}
-use Rattle.blocks_group.specs.rules.Group.{GroupModel, empty_group}
-use Rattle.blocks_group.specs.rules.Soundness.{of_shard}
+use Rattle.blocks_cache.specs.arrays.Stores.{held_in, nothing_stored, shard_held, store_outcome, stored_in, where_held, with_shard_group, zeroed_store}
+use Rattle.blocks_cache.specs.layout.Cache.{HeldOutcome, Shards, answered_on, call_on, pack, pack_outcome, pack_shard, sound_cache, view}
 use Rattle.cache_rules.proofs.ShardLaws.{group_of_sound, shards_set}
 use Rattle.cache_rules.proofs.SoundLaws.{parts}
 use Rattle.cache_rules.specs.Calls.{Request, stored, unlent}
 use Rattle.cache_rules.specs.Effects.{outcome_of, plain}
-use Rattle.cache_rules.specs.Model.{Model, ShardModel, entry_for, find_shard, group_for, group_in, group_of, is_shard, set_group, shard_before, with_ids_and_range, with_shards}
+use Rattle.cache_rules.specs.Model.{Model, ShardModel, entry_for, find_shard, group_for, group_in, group_of, set_group, shard_before, with_ids_and_range, with_shards}
 use Rattle.cache_rules.specs.Refusals.{further, has_room, sound_model}
-
--- ===== the cases of an answer =====
-
--- ===== whether a block is stored =====
-
--- the first flag of what is stored
-abbrev both_of : Result StoreAnswer Refusal → Bool
-both_of (Ok (stored_answer both mismatch)) = both
-both_of (Ok synced_answer) = false
-both_of (Err n) = false
-
-pub is_stored : (a : Result StoreAnswer Refusal) (mismatch : Bool) → stored_mismatch a ≡ Some mismatch → a ≡ Ok (stored_answer (both_of a) mismatch)
-is_stored (Ok (stored_answer both mismatch)) m e = let same : mismatch ≡ m = cc in ap (λ (x : Bool). Ok (stored_answer both x)) same
-is_stored (Ok synced_answer) m e = let z : ◌≡◌ {A = ℕ} 0 1 = cc in absurd (omega arith)
-is_stored (Err n) m e = let z : ◌≡◌ {A = ℕ} 0 1 = cc in absurd (omega arith)
-
-pub is_unstored : (a : Result StoreAnswer Refusal) → stored_mismatch a ≡ None → (both mismatch : Bool) → a ≡ Ok (stored_answer both mismatch) → ⊥
-is_unstored a e both mismatch s = let z : ◌≡◌ {A = ℕ} 0 1 = cc in omega arith
-
--- an answer that is not Stored: nothing is stored, by a definition that stores nothing where the answer is Synced or refused
-pub unstored : (f : Result StoreAnswer Refusal → BlockCacheStoreResult) (h : Cache) →
-    nothing_stored (Ok synced_answer) h ≡ f (Ok synced_answer) → ((n : Refusal) → nothing_stored (Err n) h ≡ f (Err n)) →
-    (a : Result StoreAnswer Refusal) → ((both mismatch : Bool) → a ≡ Ok (stored_answer both mismatch) → ⊥) → nothing_stored a h ≡ f a
-unstored f h synced_is refused_is (Ok (stored_answer both mismatch)) t = absurd (t both mismatch refl)
-unstored f h synced_is refused_is (Ok synced_answer) t = synced_is
-unstored f h synced_is refused_is (Err n) t = refused_is n
 
 -- ===== nothing is left free =====
 
@@ -86,6 +55,11 @@ pub pick_zeroed : (b : Bool) (x y : BlockCacheStoreResult) → Zeroed x → Zero
 pick_zeroed true x y p q = p
 pick_zeroed false x y p q = q
 
+-- what is made of the group of a shard
+pub held_zeroed : (o : Option ShardBlocks) (made : ShardBlocks → BlockCacheStoreResult) (h : Cache) → ((g : ShardBlocks) → Zeroed (made g)) → Zeroed (where_held o made h)
+held_zeroed None made h z = refl
+held_zeroed (Some g) made h z = z g
+
 -- ===== what is stored in a packed cache =====
 
 -- the answer of a store that leaves a model
@@ -97,99 +71,88 @@ stored_packed both mismatch m =
     let i : (highest_id (pack m).«data») ≡ last m.ids = highest_id_packed m in
     λ k. record { cache = pack m; answer = stored both mismatch (i k) m.range; slice = [] }
 
--- ===== the group of a shard =====
-
-module _ (gs : List ShardGroup) (long : length gs ≡ 8) (n : ℕ) (s : ShardIdent) (k : ℕ) where
-  pub held_there : (d : ShardGroup) → shard_place s n gs ≡ Ok k → record { room = true; group = (get_or gs k d).group } ≡ shard_held s n gs
-  unfolding shard_held
-  held_there d e =
-      let l = shard_listed gs long n (record { shard = s; group = zero_group }) k e in
-      rw e (ap (λ (g : ShardGroup). record { room = true; group = g.group }) (get_d_any gs k d zero_shard_group (omega arith)))
-
-  pub held_nowhere : (g : Group) → g ≡ zero_group → shard_place s n gs ≡ Err k → record { room = ltb n 8; group = g } ≡ shard_held s n gs
-  unfolding shard_held
-  held_nowhere g z e = rw (e, z)
-
 -- ===== the group of a shard in a packed cache =====
 
+-- none of a shard, and no room for one
 pub neither : (o : Option ShardModel) (b : Bool) → is_some o || b ≡ false → (o ≡ None) × (b ≡ false)
 neither None b h = (refl, h)
 neither (Some x) b h = clash refl h
 
-module _ (s : ShardIdent) (m : Model) (ok : sound_model m ≡ true) where
-  abbrev any_group : ShardModel
-  any_group = record { shard = s; group = empty_group }
+module _ (s : ShardIdent) (m : Model) where
+  -- question 8 of the groups: there is one, or a further one fits
+  abbrev pub shard_room : Bool
+  shard_room = is_some (find_shard s m.shards) || ltb (length m.shards) 8
 
-  abbrev held_of : Option ShardModel → ShardHeld
-  held_of o = record { room = is_some o || ltb (length m.shards) 8; group = pack_group (group_in o) }
-
-  found_by : (p : Result ℕ ℕ) → shard_place s (pack m).shard_count (pack m).shards ≡ p →
-      find_shard s m.shards ≡ element_at (λ (g : ShardModel). less_shard g.shard s) (is_shard s) any_group p m.shards
-  found_by p e =
-      find_shard_packed s m (parts m ok).rest.shards.order any_group
-      ∙ ap (λ (f : Result ℕ ℕ). element_at (λ (g : ShardModel). less_shard g.shard s) (is_shard s) any_group f m.shards) e
-
-  standing_there : (k : ℕ) → shard_place s (pack m).shard_count (pack m).shards ≡ Ok k →
-      get_or (pack m).shards k zero_shard_group ≡ pack_shard (get_or m.shards k any_group)
-  standing_there k e =
-      let l : k < length m.shards = at_within (λ (g : ShardModel). less_shard g.shard s) (is_shard s) m.shards k (sym (shard_place_packed s m) ∙ e) in
-      sym (get_or-take (length m.shards) (pack m).shards k zero_shard_group l)
-      ∙ ap (λ (xs : List ShardGroup). get_or xs k zero_shard_group) (take_padded_each 8 zero_shard_group pack_shard m.shards)
-      ∙ get_d_any (map pack_shard m.shards) k zero_shard_group (pack_shard any_group) (omega (arith, length_each pack_shard m.shards))
-      ∙ getD_each pack_shard m.shards k any_group
-
-  held_by : (p : Result ℕ ℕ) → shard_place s (pack m).shard_count (pack m).shards ≡ p → held_at (pack m).shard_count (pack m).shards p ≡ held_of (find_shard s m.shards)
-  unfolding padded zero_group
-  held_by (Ok k) e =
-      rw (found_by (Ok k) e) (ap (λ (g : ShardGroup). record { room = true; group = g.group }) (standing_there k e))
-  held_by (Err k) e = rw (found_by (Err k) e)
+  held_by : (o : Option ShardModel) →
+      held_in (option_map pack_shard o) (pack m).shards ≡ cond (is_some o || ltb (length m.shards) 8) (Some (pack_group shard_parts (group_in o))) None
+  unfolding no_blocks
+  held_by None =
+      ap (λ (gs : List ShardGroup). cond (ltb (length gs) 8) (Some (no_blocks shard_parts)) None) (listed_packed m)
+      ∙ ap (λ (n : ℕ). cond (ltb n 8) (Some (no_blocks shard_parts)) None) (length_each pack_shard m.shards)
+  held_by (Some g) = refl
 
   -- the group is the model's; there is room where question 8 has it
-  pub held_packed : shard_held s (pack m).shard_count (pack m).shards ≡ held_of (find_shard s m.shards)
+  pub held_packed : rising shard_before m.shards ≡ true → shard_held s (pack m).shards ≡ cond shard_room (Some (pack_group shard_parts (group_of s m.shards))) None
   unfolding shard_held
-  held_packed = held_by (shard_place s (pack m).shard_count (pack m).shards) refl
+  held_packed r = ap (λ (o : Option ShardGroup). held_in o (pack m).shards) (listed_shard_packed s m r) ∙ held_by (find_shard s m.shards)
 
-  pub shard_group_parts : GroupParts (of_shard s) (group_of s m.shards)
-  shard_group_parts = group_parts (of_shard s) (group_of s m.shards) (group_of_sound s m.shards (parts m ok).rest.shards)
+  -- what is made of the group of a shard block, by whether there is room for it
+  pub where_held_packed : rising shard_before m.shards ≡ true → (made : ShardBlocks → BlockCacheStoreResult) (left : HeldOutcome) → is_masterchain s ≡ false →
+      (shard_room ≡ true → store_outcome (made (pack_group shard_parts (group_for s m))) ≡ left) →
+      (shard_room ≡ false → store_outcome (nothing_stored (Err NoRoom) (pack m)) ≡ left) →
+      store_outcome (where_held (shard_held s (pack m).shards) made (pack m)) ≡ left
+  where_held_packed r made left side there full =
+      let e : group_of s m.shards ≡ group_for s m = rw side in
+      let by = λ (b : Bool). store_outcome (where_held (cond b (Some (pack_group shard_parts (group_of s m.shards))) None) made (pack m)) in
+      ap (λ (o : Option ShardBlocks). store_outcome (where_held o made (pack m))) (held_packed r)
+      ∙ on shard_room
+      (λ t. ap by t ∙ ap (λ (g : GroupModel). store_outcome (made (pack_group shard_parts g))) e ∙ there t)
+      (λ t. ap by t ∙ full t)
 
-  -- how many shard groups there are does not depend on the group that is put
-  set_length_by : (g : GroupModel) → length (set_group s g m.shards) ≡ length (put less_shard s (map (λ (x : ShardModel). x.shard) m.shards))
-  set_length_by g =
-      sym (length_each (λ (x : ShardModel). x.shard) (set_group s g m.shards))
-      ∙ ap length (sym (each_put (λ (x : ShardModel). x.shard) shard_before less_shard (λ x y. refl) (record { shard = s; group = g }) m.shards))
+  module _ (ok : sound_model m ≡ true) where
+    -- the group of a block's shard stands by seqno, within its places
+    pub group_fits : (rising entry_before (group_for s m).entries ≡ true) × (length (group_for s m).entries ≤ 16)
+    group_fits =
+        on (is_masterchain s)
+        (λ t. rw t (fits (group_parts is_masterchain m.masters (parts m ok).rest.masters)))
+        (λ t. rw t (fits (group_parts (of_shard s) (group_of s m.shards) (group_of_sound s m.shards (parts m ok).rest.shards))))
+      where
+        fits : {p : ShardIdent → Bool} {g : GroupModel} → GroupParts p g → (rising entry_before g.entries ≡ true) × (length g.entries ≤ 16)
+        fits {g = g} p = (p.order, leb-true (length g.entries) 16 p.count)
 
-  set_few : (g : GroupModel) → is_masterchain s ≡ false → is_some (find_shard s m.shards) || ltb (length m.shards) 8 ≡ true → length (set_group s g m.shards) ≤ 8
-  set_few g side room =
-      let h = (parts m ok).rest.shards in
-      let x = group_of s m.shards in
-      let l = leb-true (length (set_group s x m.shards)) 8 (shards_set s x m.shards h side (group_of_sound s m.shards h) room).count in
-      omega (arith, set_length_by g, set_length_by x)
+    -- how many shard groups there are does not depend on the group that is put
+    set_length_by : (g : GroupModel) → length (set_group s g m.shards) ≡ length (put less_shard s (map (λ (x : ShardModel). x.shard) m.shards))
+    set_length_by g =
+        sym (length_each (λ (x : ShardModel). x.shard) (set_group s g m.shards))
+        ∙ ap length (sym (each_put (λ (x : ShardModel). x.shard) shard_before less_shard (λ x y. refl) (record { shard = s; group = g }) m.shards))
 
-  -- the group put in, and any master data
-  pub with_shard_packed : (g : GroupModel) (ids : List BlockId) (range : Option AppliedRange) → is_masterchain s ≡ false →
-      is_some (find_shard s m.shards) || ltb (length m.shards) 8 ≡ true →
-      with_shard_group (record { shard = s; group = pack_group g }) (pack (with_ids_and_range ids range m)).«data» (pack m)
-      ≡ pack (with_ids_and_range ids range (with_shards (set_group s g m.shards) m))
-  with_shard_packed g ids range side room =
-      ap (λ (x : Shards). record {
-        zerostate_mc_seqno = m.zerostate;
-        masters = pack_master_group m.masters;
-        «data» = (pack (with_ids_and_range ids range m)).«data»;
-        shards = x.groups;
-        shard_count = x.count;
-      }) (put_shard_packed (record { shard = s; group = g }) m (set_few g side room))
+    set_few : (g : GroupModel) → is_masterchain s ≡ false → shard_room ≡ true → length (set_group s g m.shards) ≤ 8
+    set_few g side room =
+        let h = (parts m ok).rest.shards in
+        let x = group_of s m.shards in
+        let l = leb-true (length (set_group s x m.shards)) 8 (shards_set s x m.shards h side (group_of_sound s m.shards h) room).count in
+        omega (arith, set_length_by g, set_length_by x)
 
-pub master_group_parts : (m : Model) → sound_model m ≡ true → GroupParts is_masterchain m.masters
-master_group_parts m ok = group_parts is_masterchain m.masters (parts m ok).rest.masters
+    -- the group put in, and any master data
+    pub with_shard_packed : (g : GroupModel) (ids : List BlockId) (range : Option AppliedRange) → is_masterchain s ≡ false → shard_room ≡ true →
+        with_shard_group (record { shard = s; group = pack_group shard_parts g }) (pack (with_ids_and_range ids range m)).«data» (pack m)
+        ≡ pack (with_ids_and_range ids range (with_shards (set_group s g m.shards) m))
+    with_shard_packed g ids range side room =
+        ap (λ (x : Shards). record {
+          zerostate_mc_seqno = m.zerostate;
+          masters = pack_group master_parts m.masters;
+          «data» = (pack (with_ids_and_range ids range m)).«data»;
+          shards = x;
+        }) (put_shard_packed (record { shard = s; group = g }) m (set_few g side room))
 
 -- question 8, where a group of the shard stands or can be put
-pub has_room_is : (i : BlockId) (m : Model) → is_masterchain (id_shard i) || (is_some (find_shard (id_shard i) m.shards) || ltb (length m.shards) 8) ≡ true →
+pub has_room_is : (i : BlockId) (m : Model) → is_masterchain (id_shard i) || shard_room (id_shard i) m ≡ true →
     has_room i m ≡ is_some (entry_for i m) || model_room (group_for (id_shard i) m)
 has_room_is i m h = rw h (on (model_room (group_for (id_shard i) m)) (λ t. rw t) (λ t. rw t))
 
 -- ===== a call's questions in two parts =====
 
-pub refusal_is : (o : Option Refusal) (r : Result ⊤ Refusal) → r ≡ passed o → o ≡ err_of r
+refusal_is : (o : Option Refusal) (r : Result ⊤ Refusal) → r ≡ passed o → o ≡ err_of r
 refusal_is None r e = sym (ap err_of e)
 refusal_is (Some n) r e = sym (ap err_of e)
 

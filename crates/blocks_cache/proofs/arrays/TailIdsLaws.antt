@@ -1,5 +1,12 @@
 -- Tail ids on a packed cache: each step is the rule's, packed; so is the whole walk; and the call.
 -- Assumes nothing.
+use Rattle.blocks_group.proofs.arrays.GroupLaws.{block_at_packed}
+use Rattle.blocks_group.proofs.rules.GroupLaws.{GroupParts, group_parts}
+use Rattle.blocks_group.specs.arrays.Group.{block_at}
+use Rattle.blocks_group.specs.layout.Block.{master_laws, master_parts}
+use Rattle.blocks_group.specs.layout.Group.{pack_group}
+use Rattle.blocks_group.specs.rules.Group.{at_seqno, has_seqno}
+use Rattle.blocks_group.specs.rules.Soundness.{fits_in}
 use Rattle.block_records.specs.declared.questions.Refusal.{Refusal}
 use Rattle.block_records.specs.declared.questions.Refusal.TheVariants.{NoMaster, SeqnoLimit, Unsound}
 use Rattle.std.specs.List.{find, flat_map, fold}
@@ -41,12 +48,6 @@ use Rattle.blocks_cache.proofs.layout.CallOnLaws.{first_part_refuses, on_sound, 
 use Rattle.blocks_cache.specs.arrays.Lookup.{cached_block}
 use Rattle.blocks_cache.specs.arrays.TailIds.{TailState, TailStep, block_tails, cached_row, found_step, fresh_ids, given_tails, hold_given, hold_row, listed_tails, missing_row, no_step, no_tails, pack_tail, pack_tails, put_row, read_tails, replaces_row, row_at, row_before, row_below, row_held_at, row_place, set_row, step_of, tail_outcome, tails_at, take_queued, take_tail_id, view_tail, view_tails, zero_tail, zeroed_tails}
 use Rattle.blocks_cache.specs.layout.Cache.{call_on, pack, pack_outcome, sound_cache, view}
-use Rattle.blocks_group.proofs.arrays.GroupLaws.{master_at_packed}
-use Rattle.blocks_group.proofs.rules.GroupLaws.{GroupParts, group_parts}
-use Rattle.blocks_group.specs.arrays.Group.{answered_master, master_at}
-use Rattle.blocks_group.specs.layout.Group.{pack_master_group}
-use Rattle.blocks_group.specs.rules.Group.{at_seqno, has_seqno}
-use Rattle.blocks_group.specs.rules.Soundness.{fits_in}
 use Rattle.cache_rules.proofs.CountLaws.{shards_previous}
 use Rattle.cache_rules.proofs.SoundLaws.{parts}
 use Rattle.cache_rules.proofs.TailAnswer.{at_most_17, done_fits, ended, tails_same}
@@ -110,10 +111,10 @@ find_packed s rows r d =
     (λ x y t u l. rw (differs shard_order y.shard s (λ e. clash (shard_order.trans s x.shard y.shard (shard_order.tri x.shard s u t) l) (rw e (shard_order.irrefl s))))) d rows r
     ∙ ap (λ (p : Result ℕ ℕ). element_at (row_under s) (row_of s) d p rows) (sym (place_packed s rows))
 
-row_packed_at : (rows : List TailRow) (k : ℕ) (d : TailRow) → k < length rows → get_or (pack_tails rows).rows k zero_tail ≡ pack_tail (get_or rows k d)
+row_packed_at : (rows : List TailRow) (k : ℕ) (d : TailRow) → k < length rows → get_or (pack_tails rows).items k zero_tail ≡ pack_tail (get_or rows k d)
 row_packed_at rows k d h =
     let n = length_each pack_tail rows in
-    sym (get_or-take (length (map pack_tail rows)) (pack_tails rows).rows k zero_tail (omega arith))
+    sym (get_or-take (length (map pack_tail rows)) (pack_tails rows).items k zero_tail (omega arith))
     ∙ ap (λ (xs : List TailIdsRow). get_or xs k zero_tail) (listed_packed rows)
     ∙ get_d_any (map pack_tail rows) k zero_tail (pack_tail d) (omega arith)
     ∙ getD_each pack_tail rows k d
@@ -136,7 +137,7 @@ set_packed t rows k e l =
     ∙ overwritten_padded 17 zero_tail (spliced k (k + 1) (pack_tail t) xs) xs (omega (arith, c))
     ∙ ap (padded 17 zero_tail) (sym m ∙ q) in
     let b : length xs ≡ length (map pack_tail (put tail_before t rows)) = c ∙ ap (λ (ys : List TailIdsRow). length ys) (sym m ∙ q) in
-    λ i. record { rows = a i; count = b i }
+    λ i. record { count = b i; items = a i }
 
 module _ (rows : List TailRow) (t : TailRow) (rises : rising tail_before rows ≡ true) (few : length (hold rows t) ≤ 17) where
   hold_by : (p : Result ℕ ℕ) → row_place t.shard (pack_tails rows) ≡ p → row_held_at (pack_tail t) p (pack_tails rows) ≡ pack_tails (hold rows t)
@@ -149,16 +150,16 @@ module _ (rows : List TailRow) (t : TailRow) (rises : rising tail_before rows �
       let f : find (row_of t.shard) rows ≡ Some h = find_packed t.shard rows rises t ∙ ap (λ (p : Result ℕ ℕ). element_at (row_under t.shard) (row_of t.shard) t p rows) e in
       let l = at_within (row_under t.shard) (row_of t.shard) rows k (sym (place_packed t.shard rows) ∙ e) in
       let q : hold rows t ≡ cond (not (is_some h.id) || less_option t.id h.id) (put tail_before t rows) rows = ap (λ (o : Option TailRow). hold_over t o rows) f in
-      let g : replaces_row (pack_tail t) (get_or (pack_tails rows).rows k zero_tail) ≡ not (is_some h.id) || less_option t.id h.id =
+      let g : replaces_row (pack_tail t) (get_or (pack_tails rows).items k zero_tail) ≡ not (is_some h.id) || less_option t.id h.id =
       ap (replaces_row (pack_tail t)) (row_packed_at rows k t l) ∙ replaces_packed t h in
       on (not (is_some h.id) || less_option t.id h.id)
       (λ u.
       let v : hold rows t ≡ put tail_before t rows = q ∙ sym (picked (not (is_some h.id) || less_option t.id h.id) (put tail_before t rows) rows u) in
-      sym (picked (replaces_row (pack_tail t) (get_or (pack_tails rows).rows k zero_tail)) (set_row k (pack_tail t) (pack_tails rows)) (pack_tails rows) (g ∙ u))
+      sym (picked (replaces_row (pack_tail t) (get_or (pack_tails rows).items k zero_tail)) (set_row k (pack_tail t) (pack_tails rows)) (pack_tails rows) (g ∙ u))
       ∙ set_packed t rows k e l ∙ ap pack_tails (sym v))
       (λ u.
       let v : hold rows t ≡ rows = q ∙ sym (passed (not (is_some h.id) || less_option t.id h.id) (put tail_before t rows) rows u) in
-      sym (passed (replaces_row (pack_tail t) (get_or (pack_tails rows).rows k zero_tail)) (set_row k (pack_tail t) (pack_tails rows)) (pack_tails rows) (g ∙ u)) ∙ ap pack_tails (sym v))
+      sym (passed (replaces_row (pack_tail t) (get_or (pack_tails rows).items k zero_tail)) (set_row k (pack_tail t) (pack_tails rows)) (pack_tails rows) (g ∙ u)) ∙ ap pack_tails (sym v))
 
   pub hold_packed : hold_row (pack_tail t) (pack_tails rows) ≡ pack_tails (hold rows t)
   unfolding hold_row
@@ -453,11 +454,11 @@ module _ (k : BlockIdShort) (mo : Model) (ok : sound_model mo ≡ true) where
   read_packed : Read (read_tails k.seqno (pack mo))
   unfolding read_tails
   read_packed =
-      let at = tails_at (answered_master (master_at k.seqno (pack_master_group mo.masters))) (pack mo) in
+      let at = tails_at (block_at master_parts k.seqno (pack_group master_parts mo.masters)) (pack mo) in
       on (leb k.seqno mo.zerostate)
       (λ h. subst Read (picked (leb k.seqno mo.zerostate) (no_tails (Ok tt)) at h) (effected (plain (tail_ids []) mo) (effect_early h) (rw h), refl))
       (λ h.
-      let e = master_at_packed k.seqno mo.masters masters_ok.order in
+      let e = block_at_packed master_parts master_laws k.seqno mo.masters masters_ok.order in
       subst Read (ap (λ (o : Option MasterBlock). tails_at o (pack mo)) (sym e) ∙ passed (leb k.seqno mo.zerostate) (no_tails (Ok tt)) at h)
       (read_at h (at_seqno k.seqno mo.masters.entries) refl))
 

@@ -1,14 +1,19 @@
 -- Packing a sound model and viewing it again gives the model; what a sound cache is; no_cache is not sound.
 -- Assumes nothing.
+use Rattle.block_records.specs.layout.Listed.{listed}
+use Rattle.blocks_group.proofs.layout.GroupLaws.{all_kept_masters, all_kept_shards, group_same, listed_packed_each, view_pack_group}
+use Rattle.blocks_group.proofs.rules.GroupLaws.{shard_no_tops}
+use Rattle.blocks_group.specs.layout.Block.{master_laws, master_parts, shard_laws, shard_parts}
+use Rattle.blocks_group.specs.layout.Group.{MasterGroup, held_empty_group}
+use Rattle.blocks_group.specs.rules.Soundness.{of_shard, sound_group_model}
 use Rattle.block_records.specs.declared.range.AppliedRange.{AppliedRange}
-use Rattle.block_records.specs.declared.questions.Refusal.TheVariants.{SeqnoLimit, Unsound}
+use Rattle.block_records.specs.declared.questions.Refusal.TheVariants.{Unsound}
 use Rattle.std.specs.List.{list_all}
-use Rattle.std.specs.Prelude.{map, Err, Ok}
-use Rattle.std.proofs.Common.{◌≡◌, ℕ, zero, suc, ◌<◌, ◌≤◌, true, false, not, List, [], ◌∷◌, length, take, sym, refl, ap, ◌∙◌, subst, ap₂, le_refl, arith, le-ltb, lt-ltb}
+use Rattle.std.specs.Prelude.{map}
+use Rattle.std.proofs.Common.{◌≡◌, ℕ, zero, suc, ◌<◌, ◌≤◌, true, false, not, List, [], ◌∷◌, length, take, sym, refl, ap, ◌∙◌, subst, ap₂, le_refl, arith}
 use Rattle.blocks_cache.specs.declared.cache.Cache.{Cache}
 use Rattle.blocks_cache.specs.declared.cache.ShardGroup.{ShardGroup}
 use Rattle.blocks_cache.specs.declared.master_data.MasterData.{MasterData}
-use Rattle.blocks_group.specs.declared.group.MasterGroup.{MasterGroup}
 use Rattle.block_records.proofs.layout.EntryLaws.{take_padded}
 use Rattle.block_records.proofs.layout.EqualityLaws.{both_same, id_same, list_same, nat_same, pair_same, shard_same, option_same}
 use Rattle.block_records.proofs.rules.ListLaws.{length_each}
@@ -17,12 +22,8 @@ use Rattle.block_records.specs.layout.Zeros.{zero_id}
 use Rattle.block_records.specs.rules.BlockId.{is_masterchain}
 use Rattle.block_records.specs.rules.Lists.{padded}
 use Rattle.block_records.specs.rules.Order.{IsSame}
-use Rattle.blocks_cache.specs.layout.Cache.{call_on, empty, no_cache, pack, pack_shard, same_cache, same_data, same_range, same_seqnos, same_shard_group, sound_cache, view, view_shard, zero_cache, zero_shard_group}
-use Rattle.blocks_group.proofs.layout.GroupLaws.{group_same, master_group_same, take_padded_each, view_pack_group, view_pack_master_group}
-use Rattle.blocks_group.proofs.rules.GroupLaws.{shard_no_tops}
-use Rattle.blocks_group.specs.layout.Group.{zero_group, zero_master_group}
-use Rattle.blocks_group.specs.rules.Soundness.{of_shard, sound_group_model}
-use Rattle.cache_rules.proofs.SoundLaws.{parts, shard_parts}
+use Rattle.blocks_cache.specs.layout.Cache.{call_on, no_cache, pack, pack_shard, same_cache, same_data, same_range, same_seqnos, same_shard_group, sound_cache, view, view_shard, zero_cache, zero_shard_group}
+use Rattle.cache_rules.proofs.SoundLaws.{parts, shard_parts as parts_of_shard}
 use Rattle.cache_rules.specs.Calls.{Call, refused}
 use Rattle.cache_rules.specs.Model.{Model, ShardModel, empty_model}
 use Rattle.cache_rules.specs.Refusals.{sound_model, sound_shard_model}
@@ -30,7 +31,7 @@ use Rattle.cache_rules.specs.Refusals.{sound_model, sound_shard_model}
 view_pack_shard_group : (g : ShardModel) → sound_shard_model g ≡ true → view_shard (pack_shard g) ≡ g
 view_pack_shard_group g ok =
     let side = not_true (is_masterchain g.shard) (and_left (not (is_masterchain g.shard)) (sound_group_model (of_shard g.shard) g.group) ok) in
-    let e = view_pack_group g.group (shard_no_tops g.shard side g.group.entries (shard_parts g ok).fit) in
+    let e = view_pack_group shard_parts g.group (all_kept_shards g.group.entries (shard_no_tops g.shard side g.group.entries (parts_of_shard g ok).fit)) in
     λ i. record { shard = g.shard; group = e i }
 
 view_pack_shard_groups : (gs : List ShardModel) → list_all sound_shard_model gs ≡ true → map view_shard (map pack_shard gs) ≡ gs
@@ -41,9 +42,9 @@ view_pack_shard_groups (g ∷ gs) ok =
 pub view_pack : (m : Model) → sound_model m ≡ true → view (pack m) ≡ m
 view_pack m ok =
     let a : take (length m.ids) (padded 32 zero_id m.ids) ≡ m.ids = take_padded 32 zero_id m.ids in
-    let b : map view_shard (take (length m.shards) (padded 8 zero_shard_group (map pack_shard m.shards))) ≡ m.shards =
-    ap (map view_shard) (take_padded_each 8 zero_shard_group pack_shard m.shards) ∙ view_pack_shard_groups m.shards (parts m ok).rest.shards.each_ok in
-    let g = view_pack_master_group m.masters in
+    let b : map view_shard (listed (pack m).shards) ≡ m.shards =
+    ap (map view_shard) (listed_packed_each 8 zero_shard_group pack_shard m.shards) ∙ view_pack_shard_groups m.shards (parts m ok).rest.shards.each_ok in
+    let g = view_pack_group master_parts m.masters (all_kept_masters m.masters.entries) in
     λ i. record { zerostate = m.zerostate; masters = g i; ids = a i; range = m.range; shards = b i }
 
 -- ===== equality =====
@@ -63,17 +64,17 @@ data_same =
 shard_group_same : IsSame same_shard_group
 unfolding same_shard_group
 shard_group_same =
-    both_same (λ (g : ShardGroup). g.shard) (λ (g : ShardGroup). g.group) (λ a b p q. λ i. record { shard = p i; group = q i }) shard_same group_same
+    both_same (λ (g : ShardGroup). g.shard) (λ (g : ShardGroup). g.group) (λ a b p q. λ i. record { shard = p i; group = q i }) shard_same (group_same shard_parts shard_laws)
 
 abbrev cache_rest : Cache → ℕ × (MasterData × (MasterGroup × List ShardGroup))
-cache_rest c = (c.zerostate_mc_seqno, (c.«data», (c.masters, c.shards)))
+cache_rest c = (c.zerostate_mc_seqno, (c.«data», (c.masters, c.shards.items)))
 
 pub cache_same : IsSame same_cache
 unfolding same_cache
 cache_same =
-    both_same (λ (c : Cache). c.shard_count) cache_rest
-    (λ a b p q. λ i. record { zerostate_mc_seqno = (q i).0; masters = (q i).1.1.0; «data» = (q i).1.0; shards = (q i).1.1.1; shard_count = p i })
-    nat_same (pair_same nat_same (pair_same data_same (pair_same master_group_same (list_same shard_group_same))))
+    both_same (λ (c : Cache). c.shards.count) cache_rest
+    (λ a b p q. λ i. record { zerostate_mc_seqno = (q i).0; masters = (q i).1.1.0; «data» = (q i).1.0; shards = record { count = p i; items = (q i).1.1.1 } })
+    nat_same (pair_same nat_same (pair_same data_same (pair_same (group_same master_parts master_laws) (list_same shard_group_same))))
 
 -- ===== sound caches =====
 
@@ -98,12 +99,12 @@ take_at_most (suc n) [] = omega arith
 take_at_most (suc n) (x ∷ xs) = let ih = take_at_most n xs in omega arith
 
 -- a count past the places is not sound
-pub count_unsound : (c : Cache) → length c.shards < c.shard_count → sound_cache c ≡ false
+pub count_unsound : (c : Cache) → length c.shards.items < c.shards.count → sound_cache c ≡ false
 count_unsound c l =
     not_true_false (sound_cache c)
     (λ h.
-    let e : c.shard_count ≡ length (map view_shard (take c.shard_count c.shards)) = ap (λ (x : Cache). x.shard_count) (sound_cache_packed c h).0 in
-    absurd (omega (arith, e, length_each view_shard (take c.shard_count c.shards), take_at_most c.shard_count c.shards)))
+    let e : c.shards.count ≡ length (map pack_shard (map view_shard (listed c.shards))) = ap (λ (x : Cache). x.shards.count) (sound_cache_packed c h).0 in
+    absurd (omega (arith, e, length_each pack_shard (map view_shard (listed c.shards)), length_each view_shard (listed c.shards), take_at_most c.shards.count c.shards.items)))
 
 pub no_cache_unsound : sound_cache no_cache ≡ false
 unfolding zero_cache
@@ -116,11 +117,5 @@ no_cache_refuses call = rw no_cache_unsound
 
 -- the empty cache, as it is held
 pub pack_empty : (zerostate : ℕ) → pack (empty_model zerostate) ≡ zero_cache zerostate 0
-unfolding padded zero_cache zero_master_group zero_group
+unfolding padded zero_cache held_empty_group
 pack_empty zerostate = refl
-
-pub empty_made : (zerostate : ℕ) (c : Cache) → c ≡ zero_cache zerostate 0 → zerostate < 4294967295 → record { answer = Ok tt; cache = c } ≡ empty zerostate
-empty_made zerostate c e l = rw (e, lt-ltb zerostate 4294967295 l, pack_empty zerostate)
-
-pub empty_refused : (zerostate : ℕ) (c : Cache) → c ≡ zero_cache 0 9 → 4294967295 ≤ zerostate → record { answer = Err SeqnoLimit; cache = c } ≡ empty zerostate
-empty_refused zerostate c e l = rw (e, le-ltb zerostate 4294967295 l)

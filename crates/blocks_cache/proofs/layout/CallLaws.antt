@@ -1,6 +1,7 @@
 -- A call on a cache as it is held: it refuses by the first no only, and then leaves cache and slice; an unsound cache answers 1; peek and tail ids
 -- leave any cache as it was; the empty cache is sound.
 -- Assumes nothing.
+use Rattle.blocks_group.specs.rules.Group.{at_seqno}
 use Rattle.block_records.specs.declared.questions.Refusal.{Refusal}
 use Rattle.block_records.specs.declared.questions.Refusal.TheVariants.{Unsound}
 use Rattle.std.specs.Prelude.{Option, None, Some, ⊤, Result, Ok, Err}
@@ -13,7 +14,6 @@ use Rattle.block_records.specs.rules.Entry.{Entry}
 use Rattle.block_records.specs.rules.Questions.{first_no}
 use Rattle.blocks_cache.proofs.layout.CacheLaws.{pack_sound, sound_cache_packed}
 use Rattle.blocks_cache.specs.layout.Cache.{answered_on, call_on, pack, questions_on, sound_cache, view}
-use Rattle.blocks_group.specs.rules.Group.{at_seqno}
 use Rattle.cache_rules.proofs.NeverRefused.{effect_yes}
 use Rattle.cache_rules.proofs.SoundSteps.{all_yes, empty_sound}
 use Rattle.cache_rules.specs.Calls.{Call, peek, read_tail_ids, refusal, refused}

@@ -1,5 +1,6 @@
 -- A call on a sound cache is the rules' call, packed; its questions in two parts, those of the record itself and the rest.
 -- Assumes nothing.
+use Rattle.block_records.specs.layout.Listed.{packed}
 use Rattle.block_records.specs.declared.questions.Refusal.{Refusal}
 use Rattle.std.specs.Prelude.{Option, None, Some}
 use Rattle.std.proofs.Common.{◌≡◌, true, List, ◌++◌, length, sym, refl, ap, ◌∙◌}

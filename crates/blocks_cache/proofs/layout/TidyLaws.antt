@@ -1,6 +1,9 @@
 -- A cache is tidy exactly if its counts are within their places, its groups are tidy, and zeros stand in unused places: question 1 group by
 -- group, each by the length of its own array, as the code asks it.
 -- Assumes nothing.
+use Rattle.block_records.specs.layout.Listed.{listed}
+use Rattle.blocks_group.specs.layout.Block.{master_parts, shard_parts}
+use Rattle.blocks_group.specs.layout.Group.{group_tidy}
 use Rattle.block_records.specs.layout.Listed.{packed}
 use Rattle.block_records.specs.declared.range.AppliedRange.{AppliedRange}
 use lib.Pointwise.{pointwise}
@@ -20,7 +23,6 @@ use Rattle.block_records.specs.rules.BlockId.{same_id}
 use Rattle.block_records.specs.rules.Lists.{padded}
 use Rattle.blocks_cache.proofs.layout.CacheLaws.{range_same}
 use Rattle.blocks_cache.specs.layout.Cache.{cache_tidy, pack_shard, same_cache, same_data, same_range, same_shard_group, view_shard, zero_shard_group}
-use Rattle.blocks_group.specs.layout.Group.{group_tidy, master_group_tidy}
 
 same_range_self : (r : Option AppliedRange) → same_range r r ≡ true
 same_range_self r = range_same.same_refl r
@@ -28,7 +30,7 @@ same_range_self r = range_same.same_refl r
 abbrev shard_anew : ShardGroup → ShardGroup
 shard_anew g = pack_shard (view_shard g)
 
-shard_tidy_is : (g : ShardGroup) → same_shard_group g (shard_anew g) ≡ group_tidy g.group
+shard_tidy_is : (g : ShardGroup) → same_shard_group g (shard_anew g) ≡ group_tidy shard_parts g.group
 unfolding same_shard_group
 shard_tidy_is g = rw (shard_same.same_refl g.shard)
 
@@ -42,18 +44,19 @@ data_tidy_is d l =
     rw (same_range_self d.range)
     (ap₂ ◌&&◌ (count_take d.ids.count d.ids.items ∙ ap (leb d.ids.count) l) (same_padded_plain same_id id_same zero_id 32 d.ids.count d.ids.items l))
 
-pub cache_tidy_is : (c : Cache) → length c.«data».ids.items ≡ 32 → length c.shards ≡ 8 →
+pub cache_tidy_is : (c : Cache) → length c.«data».ids.items ≡ 32 → length c.shards.items ≡ 8 →
     cache_tidy c
-    ≡ leb c.shard_count 8 && (data_tidy c.«data» && (master_group_tidy c.masters
-    && (list_all (λ (g : ShardGroup). group_tidy g.group) (take c.shard_count c.shards)
-    && list_all (λ (g : ShardGroup). same_shard_group g zero_shard_group) (drop c.shard_count c.shards))))
+    ≡ leb c.shards.count 8 && (data_tidy c.«data» && (group_tidy master_parts c.masters
+    && (list_all (λ (g : ShardGroup). group_tidy shard_parts g.group) (listed c.shards)
+    && list_all (λ (g : ShardGroup). same_shard_group g zero_shard_group) (drop c.shards.count c.shards.items))))
 unfolding same_cache
 cache_tidy_is c zi zs =
-    let n = c.shard_count in
-    let gs = c.shards in
-    let a : eqb n (length (map view_shard (take n gs))) ≡ leb n 8 = ap (eqb n) (length_each view_shard (take n gs)) ∙ count_take n gs ∙ ap (leb n) zs in
+    let n = c.shards.count in
+    let gs = c.shards.items in
+    let a : eqb n (length (map pack_shard (map view_shard (take n gs)))) ≡ leb n 8 =
+    ap (eqb n) (length_each pack_shard (map view_shard (take n gs)) ∙ length_each view_shard (take n gs)) ∙ count_take n gs ∙ ap (leb n) zs in
     let b = ap (λ (r : List ShardGroup). pointwise same_shard_group gs (padded 8 zero_shard_group r)) (each_each pack_shard view_shard (take n gs)) ∙ same_padded same_shard_group shard_anew zero_shard_group 8 n gs zs in
-    let d : list_all (λ (g : ShardGroup). same_shard_group g (shard_anew g)) (take n gs) ≡ list_all (λ (g : ShardGroup). group_tidy g.group) (take n gs) =
-    every_same (λ (g : ShardGroup). same_shard_group g (shard_anew g)) (λ (g : ShardGroup). group_tidy g.group) (take n gs) (λ g u. shard_tidy_is g) in
+    let d : list_all (λ (g : ShardGroup). same_shard_group g (shard_anew g)) (take n gs) ≡ list_all (λ (g : ShardGroup). group_tidy shard_parts g.group) (take n gs) =
+    every_same (λ (g : ShardGroup). same_shard_group g (shard_anew g)) (λ (g : ShardGroup). group_tidy shard_parts g.group) (take n gs) (λ g u. shard_tidy_is g) in
     rw (nat_same.same_refl c.zerostate_mc_seqno)
-    (ap₂ ◌&&◌ a (ap₂ ◌&&◌ (data_tidy_is c.«data» zi) (ap (λ (t : Bool). master_group_tidy c.masters && t) (b ∙ ap (λ (t : Bool). t && list_all (λ (g : ShardGroup). same_shard_group g zero_shard_group) (drop n gs)) d))))
+    (ap₂ ◌&&◌ a (ap₂ ◌&&◌ (data_tidy_is c.«data» zi) (ap (λ (t : Bool). group_tidy master_parts c.masters && t) (b ∙ ap (λ (t : Bool). t && list_all (λ (g : ShardGroup). same_shard_group g zero_shard_group) (drop n gs)) d))))

@@ -1,41 +1,38 @@
 -- RULES.md, How it is held: the shard block that is cached under a shard and seqno, in the arrays, for every cache, sound or not. On a packed cache
 -- it is the one that the rules look up, packed (proofs/arrays/LookupLaws).
 -- Assumes nothing.
-use Rattle.std.specs.Prelude.{ℕ, Bool, true, false, ◌&&◌, List, get_or, replicate, ◌==◌, slice_index_or, Option, None, Some, map, Err, Ok, Result}
+use Rattle.std.specs.List.{position}
+use Rattle.std.specs.Option.{option_eq}
+use Rattle.std.specs.Prelude.{ℕ, Bool, List, get_or, replicate, ◌==◌, slice_index_or, Option, None, Some, map}
 use Rattle.block_records.specs.declared.block_id.BlockId.{BlockId}
 use Rattle.block_records.specs.declared.block_id.ShardIdent.{ShardIdent}
 use Rattle.block_records.specs.declared.entry.BlockCacheEntry.{BlockCacheEntry}
 use Rattle.blocks_cache.specs.declared.cache.Cache.{Cache}
 use Rattle.blocks_cache.specs.declared.cache.ShardGroup.{ShardGroup}
-use Rattle.blocks_cache.specs.declared.lookup.EntrySeqno.{EntrySeqno}
 use Rattle.blocks_cache.specs.declared.lookup.GroupSeqnos.{GroupSeqnos}
-use Rattle.blocks_group.specs.declared.group.Group.{Group}
-use Rattle.block_records.specs.arrays.Place.{first_place}
+use Rattle.block_records.specs.layout.Listed.{listed}
 use Rattle.block_records.specs.layout.Zeros.{zero_entry}
 use Rattle.block_records.specs.rules.BlockId.{id_shard}
 use Rattle.block_records.specs.rules.Limits.{entries_limit}
 use Rattle.block_records.specs.rules.Lists.{padded}
 use Rattle.blocks_cache.specs.arrays.Shards.{ident_at, shard_ident}
 use Rattle.blocks_cache.specs.layout.Cache.{zero_shard_group}
-use Rattle.blocks_group.specs.arrays.Group.{held_seqno, listed_entries}
+use Rattle.blocks_group.specs.layout.Block.{block_seqno, shard_parts}
+use Rattle.blocks_group.specs.layout.Group.{ShardBlocks}
 
 -- ===== the seqnos of a group's entries =====
 
--- no entry stands there
-unfoldable pub no_seqno_here : EntrySeqno
-no_seqno_here = record { seqno = 0; cached = false }
-
 -- the seqno of an entry that is cached
-abbrev pub seqno_here : BlockCacheEntry → EntrySeqno
-seqno_here b = record { seqno = held_seqno b; cached = true }
+abbrev pub seqno_here : BlockCacheEntry → Option ℕ
+seqno_here b = Some (block_seqno shard_parts b)
 
 -- of the listed entries; none in the places after them
-abbrev pub group_seqnos : Group → GroupSeqnos
-group_seqnos g = record { entries = padded entries_limit no_seqno_here (map seqno_here (listed_entries g)); mark = g.mark }
+abbrev pub group_seqnos : ShardBlocks → GroupSeqnos
+group_seqnos g = record { entries = padded entries_limit None (map seqno_here (listed g.entries)); mark = g.mark }
 
 -- of no group
 unfoldable pub no_seqnos : GroupSeqnos
-no_seqnos = record { entries = replicate entries_limit no_seqno_here; mark = None }
+no_seqnos = record { entries = replicate entries_limit None; mark = None }
 
 -- of a shard's group
 abbrev pub shard_seqnos : ShardGroup → GroupSeqnos
@@ -44,26 +41,26 @@ shard_seqnos g = group_seqnos g.group
 -- ===== by the shards and seqnos that were gathered =====
 
 -- the seqno of an entry that is still cached
-abbrev pub cached_at : ℕ → EntrySeqno → Bool
-cached_at n x = x.cached && x.seqno == n
+abbrev pub cached_at : ℕ → Option ℕ → Bool
+cached_at n x = option_eq ◌==◌ x (Some n)
 
 -- the first place of a shard among those of the groups
-abbrev pub first_ident_place : ShardIdent → List ShardIdent → Result ℕ ℕ
-first_ident_place s idents = first_place (ident_at s) 0 idents
+abbrev pub first_ident_place : ShardIdent → List ShardIdent → Option ℕ
+first_ident_place s idents = position (ident_at s) idents
 
 -- the first place of an entry of a seqno that is still cached
-abbrev pub first_seqno_place : ℕ → GroupSeqnos → Result ℕ ℕ
-first_seqno_place n g = first_place (cached_at n) 0 g.entries
+abbrev pub first_seqno_place : ℕ → GroupSeqnos → Option ℕ
+first_seqno_place n g = position (cached_at n) g.entries
 
 -- in the group at place k
-abbrev pub place_in : ℕ → Result ℕ ℕ → Option (ℕ × ℕ)
-place_in k (Ok j) = Some (k, j)
-place_in k (Err j) = None
+abbrev pub place_in : ℕ → Option ℕ → Option (ℕ × ℕ)
+place_in k (Some j) = Some (k, j)
+place_in k None = None
 
 -- by where the id's shard stands
-abbrev pub place_of : BlockId → List GroupSeqnos → Result ℕ ℕ → Option (ℕ × ℕ)
-place_of i seqnos (Ok k) = place_in k (first_seqno_place i.seqno (slice_index_or seqnos k no_seqnos))
-place_of i seqnos (Err k) = None
+abbrev pub place_of : BlockId → List GroupSeqnos → Option ℕ → Option (ℕ × ℕ)
+place_of i seqnos (Some k) = place_in k (first_seqno_place i.seqno (slice_index_or seqnos k no_seqnos))
+place_of i seqnos None = None
 
 -- the place of the block under an id's key; the hashes are not looked at
 unfoldable pub block_place : BlockId → List ShardIdent → List GroupSeqnos → Option (ℕ × ℕ)
@@ -71,9 +68,9 @@ block_place i idents seqnos = place_of i seqnos (first_ident_place (id_shard i) 
 
 -- the block of a place
 abbrev pub placed_block : Option (ℕ × ℕ) → List ShardGroup → Option BlockCacheEntry
-placed_block (Some (k, j)) gs = Some (slice_index_or (get_or gs k zero_shard_group).group.entries j zero_entry)
+placed_block (Some (k, j)) gs = Some (slice_index_or (get_or gs k zero_shard_group).group.entries.items j zero_entry)
 placed_block None gs = None
 
 -- among the groups of a cache
 unfoldable pub cached_block : BlockId → Cache → Option BlockCacheEntry
-cached_block i c = placed_block (block_place i (map shard_ident c.shards) (map shard_seqnos c.shards)) c.shards
+cached_block i c = placed_block (block_place i (map shard_ident c.shards.items) (map shard_seqnos c.shards.items)) c.shards.items

@@ -2,13 +2,13 @@
 -- that are left. On packed data this is the rule of the model, packed (proofs/arrays/MasterDataLaws).
 -- Assumes nothing.
 use Rattle.std.specs.List.{list_any}
-use Rattle.std.specs.Prelude.{ℕ, Bool, ◌||◌, List, length, take, ◌==◌, nat_le, nat_lt, Option, cond}
+use Rattle.std.specs.Prelude.{ℕ, Bool, ◌||◌, List, length, take, ◌==◌, nat_lt, Option}
 use Rattle.block_records.specs.declared.block_id.BlockId.{BlockId}
 use Rattle.blocks_cache.specs.declared.master_data.MasterData.{MasterData}
 use Rattle.block_records.specs.layout.Zeros.{zero_id}
 use Rattle.block_records.specs.rules.Limits.{ids_limit}
-use Rattle.block_records.specs.layout.Listed.{packed}
-use Rattle.block_records.specs.rules.Lists.{last, put}
+use Rattle.block_records.specs.layout.Listed.{packed, put_listed}
+use Rattle.block_records.specs.rules.Lists.{last}
 use Rattle.cache_rules.specs.Model.{id_before, ids_below, ids_from}
 
 -- ===== what is listed =====
@@ -33,7 +33,7 @@ id_at n i = i.seqno == n
 
 -- one of the same seqno is replaced; nothing changes where they would be more than 32
 abbrev pub put_id : BlockId → MasterData → MasterData
-put_id i d = cond (nat_le (length (put id_before i (listed_ids d))) ids_limit) (with_ids (put id_before i (listed_ids d)) d) d
+put_id i d = record { ids = put_listed ids_limit zero_id id_before i d.ids; range = d.range }
 
 -- ===== ids that go =====
 

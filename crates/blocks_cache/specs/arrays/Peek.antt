@@ -1,9 +1,11 @@
 -- RULES.md, Peek: what the code reads from a cache as it is held, for every cache, sound or not, and what its answer says. On a packed cache this is
 -- the rule (proofs/arrays/PeekLaws).
 -- Assumes nothing.
+use Rattle.block_records.specs.layout.Listed.{listed, packed}
+use Rattle.blocks_group.specs.arrays.Queries.{first_applied_block}
+use Rattle.blocks_group.specs.layout.Block.{master_parts}
 use Rattle.block_records.specs.declared.questions.Refusal.{Refusal}
-use Rattle.std.specs.Prelude.{ℕ, List, [], ◌∷◌, length, take, replicate, ◌==◌, Option, None, Some, map, cond, Err, Ok, Result}
-use Rattle.block_records.specs.declared.block_id.BlockIdShort.{BlockIdShort}
+use Rattle.std.specs.Prelude.{ℕ, List, [], ◌∷◌, ◌==◌, Option, None, Some, map, cond, Err, Ok, Result}
 use Rattle.block_records.specs.declared.entry.BlockCacheEntry.{BlockCacheEntry}
 use Rattle.block_records.specs.declared.entry.MasterBlock.{MasterBlock}
 use Rattle.block_records.specs.declared.top_block.TopBlock.{TopBlock}
@@ -16,12 +18,9 @@ use Rattle.blocks_cache.specs.declared.peek.TopRows.{TopRows}
 use Rattle.block_records.specs.layout.Zeros.{zero_id}
 use Rattle.block_records.specs.rules.BlockId.{key}
 use Rattle.block_records.specs.rules.Limits.{tops_limit}
-use Rattle.block_records.specs.rules.Lists.{padded}
 use Rattle.blocks_cache.specs.arrays.Extraction.{held_starting_items}
 use Rattle.blocks_cache.specs.arrays.Lookup.{cached_block}
 use Rattle.blocks_cache.specs.layout.Cache.{HeldOutcome}
-use Rattle.blocks_group.specs.arrays.Group.{answered_master}
-use Rattle.blocks_group.specs.arrays.Queries.{first_applied_master}
 use Rattle.cache_rules.specs.Calls.{Answer, Row, View, nothing, peeked, refused}
 
 -- ===== rows =====
@@ -38,25 +37,11 @@ view_row r = record { id = r.block_id; reference = r.ref_by_mc_seqno; payload = 
 unfoldable pub zero_row : PeekRow
 zero_row = record { block_id = zero_id; ref_by_mc_seqno = 0; payload = 0 }
 
--- a key or none, as it is held
-abbrev pub pack_missing : Option BlockIdShort → Option BlockIdShort
-pack_missing None = None
-pack_missing (Some k) = Some k
-
--- the same as an option
-abbrev pub view_missing : Option BlockIdShort → Option BlockIdShort
-view_missing None = None
-view_missing (Some k) = Some k
-
 -- ===== what an answer says =====
-
--- the rows below the count, all of them where it is past the places
-abbrev pub listed_rows : Peek → List PeekRow
-listed_rows r = take r.count r.tops
 
 -- the master's row and the view, nothing, or the refusal
 abbrev pub peek_says : Result PeekAnswer Refusal → Peek → Answer
-peek_says (Ok peek_found) r = peeked (view_row r.master) (record { rows = map view_row (listed_rows r); missing = view_missing r.missing })
+peek_says (Ok peek_found) r = peeked (view_row r.master) (record { rows = map view_row (listed r.tops); missing = r.missing })
 peek_says (Ok peek_nothing) r = nothing
 peek_says (Err n) r = refused n
 
@@ -66,12 +51,12 @@ peek_outcome c r = record { cache = c; answer = peek_says r.answer r; slice = []
 
 -- an answer with zeros beside it
 unfoldable pub zero_peek : Result PeekAnswer Refusal → Peek
-zero_peek a = record { answer = a; master = zero_row; tops = replicate tops_limit zero_row; count = 0; missing = None }
+zero_peek a = record { answer = a; master = zero_row; tops = packed tops_limit zero_row []; missing = None }
 
 -- the same with zeros in what its answer does not use: in the places beyond the count, and in all where nothing is found
 abbrev pub zeroed_peek_by : Result PeekAnswer Refusal → Peek → Peek
 zeroed_peek_by (Ok peek_found) r =
-    record { answer = Ok peek_found; master = r.master; tops = padded tops_limit zero_row (listed_rows r); count = length (listed_rows r); missing = r.missing }
+    record { answer = Ok peek_found; master = r.master; tops = packed tops_limit zero_row (listed r.tops); missing = r.missing }
 zeroed_peek_by (Ok peek_nothing) r = zero_peek (Ok peek_nothing)
 zeroed_peek_by (Err n) r = zero_peek (Err n)
 
@@ -103,13 +88,13 @@ held_view_tops m c (t ∷ ts) = held_seen_top t (top_row m c t) (held_view_tops 
 
 -- the rows first, zeros after them
 abbrev pub pack_view : View → TopRows
-pack_view v = record { rows = padded tops_limit zero_row (map pack_row v.rows); count = length v.rows; gap = pack_missing v.missing }
+pack_view v = record { rows = packed tops_limit zero_row (map pack_row v.rows); gap = v.missing }
 
 -- ===== peek =====
 
 -- a master's row, and the view below it
 abbrev pub found_peek : PeekRow → TopRows → Peek
-found_peek master v = record { answer = Ok peek_found; master = master; tops = v.rows; count = v.count; missing = v.gap }
+found_peek master v = record { answer = Ok peek_found; master = master; tops = v.rows; missing = v.gap }
 
 -- peek at the master block found: its row and the view of its starting items
 abbrev pub peek_block : Cache → Option MasterBlock → Peek
@@ -120,4 +105,4 @@ peek_block c (Some b) =
 
 -- peek at the master block that pop would take from f on
 unfoldable pub held_peek : ℕ → Cache → Peek
-held_peek f c = peek_block c (answered_master (first_applied_master f c.masters))
+held_peek f c = peek_block c (first_applied_block master_parts f c.masters)

@@ -1,32 +1,32 @@
 -- RULES.md, Pop and Sync extraction: as the code answers them, for every cache, request and number of places that the lent slice has. What each
 -- answer says as the rules' answer is `extract_says`; proofs/arrays/SubgraphsLaws says that it is the rules' call.
 -- Assumes nothing.
+use Rattle.blocks_group.specs.layout.Block.{block_seqno, master_parts}
+use Rattle.blocks_group.specs.layout.Group.{MasterGroup}
 use Rattle.block_records.specs.declared.questions.Refusal.{Refusal}
 use Rattle.block_records.specs.declared.range.AppliedRange.{AppliedRange}
-use Rattle.std.specs.Prelude.{◌≡◌, ℕ, ◌≤◌, List, [], length, take, replicate, negsuc, map, cond, Option, Err, Ok, Result}
-use Rattle.block_records.specs.declared.block_id.BlockId.{BlockId}
+use Rattle.std.specs.Prelude.{◌≡◌, ℕ, ◌≤◌, List, [], ◌∷◌, length, min, take, map, cond, Option, Err, Ok, Result}
 use Rattle.block_records.specs.declared.entry.BlockCacheEntry.{BlockCacheEntry}
 use Rattle.block_records.specs.declared.entry.MasterBlock.{MasterBlock}
 use Rattle.blocks_cache.specs.declared.cache.Cache.{Cache}
 use Rattle.blocks_cache.specs.declared.extraction.ExtractAnswer.{ExtractAnswer}
 use Rattle.blocks_cache.specs.declared.extraction.ExtractAnswer.TheVariants.{AlreadyExtracted as already_answer, Extracted as extracted_answer, Popped as popped_extract}
-use Rattle.blocks_cache.specs.declared.extraction.ExtractRequest.{ExtractRequest}
-use Rattle.blocks_cache.specs.declared.extraction.ExtractRequest.TheVariants.{Pop as pop_request, Sync as sync_request}
 use Rattle.blocks_cache.specs.declared.extraction.ExtractWithBlocks.{ExtractWithBlocks}
 use Rattle.blocks_cache.specs.declared.extraction.Extraction.{Extraction}
 use Rattle.blocks_cache.specs.declared.extraction.SubgraphExtract.{SubgraphExtract}
-use Rattle.blocks_group.specs.declared.group.MasterGroup.{MasterGroup}
 use Rattle.block_records.specs.layout.Entry.{pack_entry, pack_master}
 use Rattle.block_records.specs.layout.Zeros.{zero_entry, zero_master}
 use Rattle.block_records.specs.rules.Entry.{kind_applied}
-use Rattle.block_records.specs.rules.Limits.{slice_places}
-use Rattle.block_records.specs.rules.Lists.{last, padded}
+use Rattle.block_records.specs.rules.Limits.{array_places, slice_places}
+use Rattle.block_records.specs.rules.Lists.{padded}
 use Rattle.blocks_cache.specs.arrays.Extraction.{view_master}
-use Rattle.blocks_cache.specs.arrays.LentSlices.{filled_at}
 use Rattle.blocks_cache.specs.arrays.MasterData.{drop_ids_below}
-use Rattle.blocks_cache.specs.layout.Cache.{HeldOutcome, call_on, pack}
-use Rattle.blocks_group.specs.arrays.Group.{master_seqno}
-use Rattle.cache_rules.specs.Calls.{Answer, Call, Effect, Extract, Request, already_extracted, extracted, pop, popped, refused, sync}
+use Rattle.blocks_cache.specs.layout.Cache.{HeldOutcome, call_on, pack, sound_cache}
+use Rattle.cache_rules.specs.Calls.{Answer, Effect, Extract, Request, already_extracted, extracted, popped, refused}
+use Rattle.cache_rules.specs.Effects.{at_front}
+use Rattle.cache_rules.specs.Refusals.{slice_questions}
+use Rattle.block_records.specs.declared.questions.Refusal.TheVariants.{SeqnoLimit, Unsound}
+use Rattle.block_records.specs.rules.Questions.{Question, ask, seqno_fits}
 use Rattle.cache_rules.specs.Model.{moved_start}
 
 -- ===== what is handed out =====
@@ -36,48 +36,38 @@ abbrev pub no_extract : Result ExtractAnswer Refusal → Cache → ExtractWithBl
 no_extract a c =
     record { extract = record { answer = a; master = zero_master; joined = 0; taken = 0; cache = c }; blocks = padded slice_places zero_entry [] }
 
--- ===== a request =====
+-- ===== the questions that both requests ask =====
 
--- a masterchain id of a seqno; sync extraction does not look at the rest
-unfoldable pub some_id : ℕ → BlockId
-some_id n = record { shard = record { workchain = negsuc 0; prefix = 0 }; seqno = n; root_hash = replicate 32 0; file_hash = replicate 32 0 }
-
--- the seqno of a request
-abbrev pub request_seqno : ExtractRequest → ℕ
-request_seqno (pop_request f) = f
-request_seqno (sync_request n) = n
+-- soundness, the seqno, and the places of the lent slice
+abbrev pub extract_questions : Cache → ℕ → ℕ → List Question
+extract_questions c n places = ask Unsound (sound_cache c) ∷ ask SeqnoLimit (seqno_fits n) ∷ slice_questions places
 
 -- ===== what the code does to the arrays =====
 
 -- M with the walk's numbers and blocks; a cache with these masters, this range, the walk's shard groups, and the ids from M's seqno on
-abbrev pub hand_out : Cache → Result ExtractAnswer Refusal → MasterBlock → MasterGroup → Option AppliedRange → Extraction → ExtractWithBlocks
+abbrev pub hand_out : Cache → ExtractAnswer → MasterBlock → MasterGroup → Option AppliedRange → Extraction → ExtractWithBlocks
 hand_out c a b masters range x =
     record {
       extract =
           record {
-            answer = a;
+            answer = Ok a;
             master = b;
-            joined = x.joined;
+            joined = x.blocks.count;
             taken = x.taken;
             cache =
                 record {
                   zerostate_mc_seqno = c.zerostate_mc_seqno;
                   masters = masters;
-                  «data» =
-                      record {
-                        ids = (drop_ids_below (master_seqno b) c.«data»).ids;
-                        range = range;
-                      };
+                  «data» = record { ids = (drop_ids_below (block_seqno master_parts b) c.«data»).ids; range = range };
                   shards = x.shards;
-                  shard_count = c.shard_count;
                 };
           };
-      blocks = x.blocks;
+      blocks = x.blocks.items;
     }
 
 -- the range moved on past M, if M is applied
 abbrev pub move_applied_start : Option AppliedRange → MasterBlock → Option AppliedRange
-move_applied_start r b = cond (kind_applied b.entry.«data») (moved_start (master_seqno b) r) r
+move_applied_start r b = cond (kind_applied b.entry.«data») (moved_start (block_seqno master_parts b) r) r
 
 -- ===== an answer as the rules say it =====
 
@@ -96,18 +86,9 @@ extract_says r (Err n) = refused n
 abbrev pub extract_outcome : SubgraphExtract → List BlockCacheEntry → HeldOutcome
 extract_outcome r slice = record { cache = r.cache; answer = extract_says r r.answer; slice = slice }
 
--- a request as the rules have it
-abbrev pub extract_request : ExtractRequest → Request
-extract_request (pop_request f) = pop f
-extract_request (sync_request n) = sync (some_id n)
-
--- a request as a call, with the slice that is lent
-abbrev pub extract_call : ExtractRequest → List BlockCacheEntry → Call
-extract_call q lent = record { request = extract_request q; lent = lent }
-
--- that call on the cache
-abbrev pub extract_on : Cache → ExtractRequest → List BlockCacheEntry → HeldOutcome
-extract_on c q lent = call_on c (extract_call q lent)
+-- a request as a call on the cache, with the slice that is lent
+abbrev pub extract_on : Cache → Request → List BlockCacheEntry → HeldOutcome
+extract_on c q lent = call_on c (record { request = q; lent = lent })
 
 -- the same with this master block
 abbrev pub with_master : MasterBlock → SubgraphExtract → SubgraphExtract
@@ -140,9 +121,15 @@ pub record PacksEffect (e : Effect) (p : ExtractWithBlocks) : Type 0 where
 
 -- It is the call with a slice of so many places: written over the front of any such slice, its blocks leave the call's outcome. They fit the slice,
 -- there are zeros after them, and in the fields that the answer does not use.
-pub record ExtractsWithBlocks (c : Cache) (q : ExtractRequest) (places : ℕ) (p : ExtractWithBlocks) : Type 0 where
-  pub outcome : (lent : List BlockCacheEntry) → length lent ≡ places → extract_outcome p.extract (filled_at 0 p.extract.joined p.blocks lent) ≡ extract_on c q lent
+pub record ExtractsWithBlocks (c : Cache) (q : Request) (places : ℕ) (p : ExtractWithBlocks) : Type 0 where
+  pub outcome : (lent : List BlockCacheEntry) → length lent ≡ places → extract_outcome p.extract (at_front (joined_blocks p) lent) ≡ extract_on c q lent
   pub fits : p.extract.joined ≤ places
   pub few : p.extract.joined ≤ slice_places
   pub rest : p.blocks ≡ padded slice_places zero_entry (joined_blocks p)
   pub zeroed : p.extract ≡ zeroed_extract p.extract
+
+-- ===== an array in place of a slice =====
+
+-- how many of its places are lent: all of them where fewer are there than asked for
+abbrev pub lent_places : ℕ → ℕ
+lent_places n = min n array_places

@@ -1,35 +1,41 @@
 -- RULES.md, Tail ids: the rows as they are held, and what the code does to them and to the ids that wait, for every input, sound or not. On packed
 -- rows and a packed cache this is the rule, packed (proofs/arrays/TailIdsLaws).
 -- Assumes nothing.
+use Rattle.blocks_group.specs.arrays.Group.{block_at}
+use Rattle.blocks_group.specs.layout.Block.{master_parts}
 use Rattle.block_records.specs.declared.questions.Refusal.{Refusal}
 use Rattle.cache_rules.specs.TailIds.{less_option}
 use Rattle.block_records.specs.declared.questions.Refusal.TheVariants.{NoMaster}
 use Rattle.std.specs.List.{find, fold}
-use Rattle.std.specs.Prelude.{ℕ, zero, suc, ◌+◌, ◌%◌, ◌^◌, Bool, true, false, ◌||◌, List, [], ◌∷◌, ◌++◌, length, take, ◌==◌, nat_eq, nat_le, nat_lt, slice_index_or, slice_set, Option, None, Some, map, cond, is_some, Err, Ok, Result, is_none, ⊤}
+use Rattle.std.specs.Prelude.{◌≤◌, ◌≡◌, ℕ, zero, suc, ◌+◌, ◌%◌, ◌^◌, Bool, true, false, ◌||◌, List, [], ◌∷◌, ◌++◌, length, take, ◌==◌, nat_eq, nat_le, nat_lt, slice_index_or, slice_set, Option, None, Some, map, cond, is_some, Err, Ok, Result, is_none, ⊤}
 use Rattle.block_records.specs.declared.block_id.BlockId.{BlockId}
 use Rattle.block_records.specs.declared.block_id.ShardIdent.{ShardIdent}
 use Rattle.block_records.specs.declared.entry.BlockCacheEntry.{BlockCacheEntry}
 use Rattle.block_records.specs.declared.entry.MasterBlock.{MasterBlock}
-use Rattle.block_records.specs.layout.Listed.{PrevIds}
+use Rattle.block_records.specs.declared.listed.Listed.{Listed}
+use Rattle.block_records.specs.layout.Listed.{PrevIds, listed, packed, put_listed}
 use Rattle.blocks_cache.specs.declared.cache.Cache.{Cache}
 use Rattle.blocks_cache.specs.declared.tail_ids.TailIds.{TailIds}
 use Rattle.blocks_cache.specs.declared.tail_ids.TailIdsRow.{TailIdsRow}
-use Rattle.blocks_cache.specs.declared.tail_ids.TailRows.{TailRows}
+use Rattle.blocks_cache.specs.declared.tail_ids.TailQueue.{TailQueue}
 use Rattle.blocks_cache.specs.declared.tail_ids.TailWalk.{TailWalk}
 use Rattle.block_records.specs.arrays.Place.{place}
 use Rattle.block_records.specs.layout.Entry.{pack_prev_ids}
 use Rattle.block_records.specs.layout.Zeros.{zero_id, zero_prev_ids, zero_shard}
 use Rattle.block_records.specs.rules.BlockId.{id_shard, less_shard, listed_prev_ids, listed_tops, same_shard}
 use Rattle.block_records.specs.rules.Limits.{queued_limit, queued_places, rows_limit}
-use Rattle.block_records.specs.rules.Lists.{padded, put}
+use Rattle.block_records.specs.rules.Lists.{padded}
 use Rattle.blocks_cache.specs.arrays.Lookup.{cached_block}
 use Rattle.blocks_cache.specs.layout.Cache.{HeldOutcome}
-use Rattle.blocks_group.specs.arrays.Group.{answered_master, master_at}
 use Rattle.cache_rules.specs.Calls.{Answer, TailRow, refused, tail_ids}
 use Rattle.cache_rules.specs.Extraction.{top_id}
 use Rattle.cache_rules.specs.TailIdsOnce.{unknown_ids}
 
 -- ===== the rows =====
+
+-- the rows, 17 at most
+abbrev pub TailRows : Type 0
+TailRows = Listed TailIdsRow rows_limit
 
 -- a row as it is held: zeros beyond the previous ids
 abbrev pub pack_tail : TailRow → TailIdsRow
@@ -45,7 +51,7 @@ zero_tail = record { shard = zero_shard; id = None; prev_ids = zero_prev_ids }
 
 -- these rows, and zeros after them
 abbrev pub with_rows : List TailIdsRow → TailRows
-with_rows rs = record { rows = padded rows_limit zero_tail rs; count = length rs }
+with_rows rs = packed rows_limit zero_tail rs
 
 -- the rows of the rules, packed
 abbrev pub pack_tails : List TailRow → TailRows
@@ -53,7 +59,7 @@ pack_tails ts = with_rows (map pack_tail ts)
 
 -- the rows below the count; a count past the 17 places lists them all
 abbrev pub listed_tails : TailRows → List TailIdsRow
-listed_tails t = take t.count t.rows
+listed_tails t = listed t
 
 -- what the rows say
 abbrev pub view_tails : TailRows → List TailRow
@@ -79,7 +85,7 @@ row_place s t = place (row_below s) (row_at s) (listed_tails t)
 
 -- the row put in by shard; one of the same shard is replaced; nothing changes where they would be more than 17
 abbrev pub put_row : TailIdsRow → TailRows → TailRows
-put_row r t = cond (nat_le (length (put row_before r (listed_tails t))) rows_limit) (with_rows (put row_before r (listed_tails t))) t
+put_row r t = put_listed rows_limit zero_tail row_before r t
 
 -- an id takes the place of one held: that one is absent, or this one comes before it
 abbrev pub replaces_last : Option BlockId → Option BlockId → Bool
@@ -91,11 +97,11 @@ replaces_row r h = replaces_last r.id h.id
 
 -- the row in the place of another
 abbrev pub set_row : ℕ → TailIdsRow → TailRows → TailRows
-set_row k r t = record { rows = slice_set t.rows k r; count = t.count }
+set_row k r t = record { count = t.count; items = slice_set t.items k r }
 
 -- by what stands at the place of the row's shard
 abbrev pub row_held_at : TailIdsRow → Result ℕ ℕ → TailRows → TailRows
-row_held_at r (Ok k) t = cond (replaces_row r (slice_index_or t.rows k zero_tail)) (set_row k r t) t
+row_held_at r (Ok k) t = cond (replaces_row r (slice_index_or t.items k zero_tail)) (set_row k r t) t
 row_held_at r (Err k) t = put_row r t
 
 -- the row held for its shard
@@ -146,10 +152,6 @@ hold_given s t = cond s.given (hold_row s.row t) t
 
 -- ===== the ids that wait =====
 
--- one id or the other, both or none
-abbrev pub two_ids : BlockId → Bool → BlockId → Bool → List BlockId
-two_ids a takes_a b takes_b = cond takes_a (a ∷ cond takes_b (b ∷ []) []) (cond takes_b (b ∷ []) [])
-
 -- those that are not known yet, each once; none of them where known and new together are more than 256
 unfoldable pub fresh_ids : List BlockId → List BlockId → List BlockId
 fresh_ids known ps = cond (nat_le (length known + length (unknown_ids known ps)) queued_limit) (unknown_ids known ps) []
@@ -170,12 +172,25 @@ pub record TailState : Type 0 where
   pub known : List BlockId
 
 -- the ids first with their fingerprints, zeros after them
-abbrev pub pack_walk : TailState → TailWalk
-pack_walk w = record { tails = w.tails; ids = padded queued_places zero_id w.known; fingerprints = padded queued_places 0 (map fingerprint w.known); count = length w.known }
+abbrev pub pack_queue : List BlockId → TailQueue
+pack_queue ids = record { ids = padded queued_places zero_id ids; fingerprints = padded queued_places 0 (map fingerprint ids); count = length ids }
 
--- what stands in the arrays
+-- the ids that were queued
+abbrev pub queue_ids : TailQueue → List BlockId
+queue_ids q = take q.count q.ids
+
+-- they are the ids that it packs, 256 at most
+pub record IsQueue (q : TailQueue) : Type 0 where
+  pub few : q.count ≤ queued_limit
+  pub is_packed : q ≡ pack_queue (queue_ids q)
+
+-- the rows and the queue, as they are held
+abbrev pub pack_walk : TailState → TailWalk
+pack_walk w = record { tails = w.tails; queue = pack_queue w.known }
+
+-- what they say
 abbrev pub walk_state : TailWalk → TailState
-walk_state w = record { tails = w.tails; known = take w.count w.ids }
+walk_state w = record { tails = w.tails; known = queue_ids w.queue }
 
 -- before the first id: the master's own row
 abbrev pub first_state : TailIdsRow → TailState
@@ -242,4 +257,4 @@ tails_at (Some b) c = given_tails (block_tails b c)
 
 -- no row up to the zerostate's seqno; above it the tail ids of the master at the seqno
 unfoldable pub read_tails : ℕ → Cache → TailIds
-read_tails n c = cond (nat_le n c.zerostate_mc_seqno) (no_tails (Ok tt)) (tails_at (answered_master (master_at n c.masters)) c)
+read_tails n c = cond (nat_le n c.zerostate_mc_seqno) (no_tails (Ok tt)) (tails_at (block_at master_parts n c.masters) c)

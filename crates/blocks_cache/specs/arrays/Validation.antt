@@ -1,12 +1,13 @@
 -- RULES.md, Validation: what the code does to a cache as it is held, for every cache, sound or not, and what its answer says. On a packed cache this
 -- is the rule, packed (proofs/arrays/ValidationLaws).
 -- Assumes nothing.
+use Rattle.blocks_group.specs.arrays.Group.{block_at, put_block}
+use Rattle.blocks_group.specs.layout.Block.{block_kind, master_parts, with_block_data}
 use Rattle.block_records.specs.declared.questions.Refusal.{Refusal}
-use Rattle.std.specs.Prelude.{ℕ, true, false, [], Option, None, Some, Err, Ok, Result}
+use Rattle.std.specs.Prelude.{ℕ, [], Option, None, Some, Err, Ok, Result}
 use Rattle.block_records.specs.declared.entry.BlockCacheEntryData.{BlockCacheEntryData}
 use Rattle.block_records.specs.declared.entry.MasterBlock.{MasterBlock}
 use Rattle.blocks_cache.specs.declared.cache.Cache.{Cache}
-use Rattle.blocks_cache.specs.declared.validation.ValidatedKind.{ValidatedKind}
 use Rattle.blocks_cache.specs.declared.validation.ValidationAnswer.{ValidationAnswer}
 use Rattle.blocks_cache.specs.declared.validation.ValidationAnswer.TheVariants.{NoChange as status_kept, Updated as status_updated}
 use Rattle.blocks_cache.specs.declared.validation.ValidationResult.{ValidationResult}
@@ -14,8 +15,6 @@ use Rattle.blocks_cache.specs.declared.validation.ValidationStatus.{ValidationSt
 use Rattle.blocks_cache.specs.declared.validation.ValidationStatus.TheVariants.{Complete as validation_complete, Skipped as validation_skipped}
 use Rattle.blocks_cache.specs.arrays.Cache.{with_master_group}
 use Rattle.blocks_cache.specs.layout.Cache.{HeldOutcome}
-use Rattle.blocks_group.specs.arrays.Group.{answered_master, master_at, put_master}
-use Rattle.blocks_group.specs.arrays.Store.{block_kind, with_block_data}
 use Rattle.cache_rules.specs.Calls.{Answer, Validation, complete, no_change, refused, skipped, validated}
 use Rattle.cache_rules.specs.Effects.{result_status, validated_kind}
 
@@ -36,13 +35,6 @@ validation_says (Err n) = refused n
 abbrev pub validation_outcome : ValidationResult → HeldOutcome
 validation_outcome r = record { cache = r.cache; answer = validation_says r.answer; slice = [] }
 
--- ===== the kind =====
-
--- the changed kind, or that which was given
-abbrev pub pack_kind : BlockCacheEntryData → Option BlockCacheEntryData → ValidatedKind
-pack_kind k None = record { changed = false; «data» = k }
-pack_kind k (Some n) = record { changed = true; «data» = n }
-
 -- ===== the master block at a seqno =====
 
 -- no change
@@ -53,13 +45,13 @@ kept_status c = record { answer = Ok status_kept; cache = c }
 abbrev pub held_validate_kind : Validation → MasterBlock → Option BlockCacheEntryData → Cache → ValidationResult
 held_validate_kind v b None c = kept_status c
 held_validate_kind v b (Some k) c =
-    record { answer = Ok (status_updated (result_status v)); cache = with_master_group (put_master (with_block_data k b) c.masters) c }
+    record { answer = Ok (status_updated (result_status v)); cache = with_master_group (put_block master_parts (with_block_data master_parts k b) c.masters) c }
 
 -- validation of the master block found; no change where none was found
 abbrev pub validate_block : Validation → Option MasterBlock → Cache → ValidationResult
 validate_block v None c = kept_status c
-validate_block v (Some b) c = held_validate_kind v b (validated_kind v (block_kind b)) c
+validate_block v (Some b) c = held_validate_kind v b (validated_kind v (block_kind master_parts b)) c
 
 -- validation of the master block at a seqno
 unfoldable pub validate_master : ℕ → Validation → Cache → ValidationResult
-validate_master n v c = validate_block v (answered_master (master_at n c.masters)) c
+validate_master n v c = validate_block v (block_at master_parts n c.masters) c

@@ -1,14 +1,18 @@
 -- RULES.md, How it is held and Soundness: the cache in arrays with counts; how the model is packed into it, what it stands for, when it is sound, and
 -- a call on it.
 -- Assumes nothing.
-use Rattle.block_records.specs.layout.Listed.{packed}
+use Rattle.blocks_group.specs.layout.Block.{master_parts, shard_parts}
+use Rattle.blocks_group.specs.layout.Group.{held_empty_group, pack_group, same_group, sound_group, view_group}
+use Rattle.blocks_group.specs.rules.Soundness.{of_shard}
+use Rattle.block_records.specs.layout.Listed.{listed, packed}
+use Rattle.block_records.specs.declared.listed.Listed.{Listed}
 use Rattle.block_records.specs.declared.questions.Refusal.{Refusal}
 use Rattle.std.specs.Option.{option_eq}
 use Rattle.block_records.specs.declared.range.AppliedRange.{AppliedRange}
 use Rattle.block_records.specs.declared.questions.Refusal.TheVariants.{SeqnoLimit, Unsound}
 use lib.Pointwise.{pointwise}
 use Rattle.std.specs.List.{list_all}
-use Rattle.std.specs.Prelude.{ℕ, suc, Bool, not, ◌&&◌, List, [], ◌∷◌, length, take, drop, replicate, ◌==◌, nat_le, Option, None, Some, map, cond, Err, Ok}
+use Rattle.std.specs.Prelude.{ℕ, suc, Bool, not, ◌&&◌, List, [], ◌∷◌, length, drop, replicate, ◌==◌, nat_le, Option, None, Some, map, cond, Err, Ok}
 use Rattle.block_records.specs.declared.entry.BlockCacheEntry.{BlockCacheEntry}
 use Rattle.blocks_cache.specs.declared.cache.Cache.{Cache}
 use Rattle.blocks_cache.specs.declared.cache.NewCache.{NewCache}
@@ -17,36 +21,37 @@ use Rattle.blocks_cache.specs.declared.master_data.MasterData.{MasterData}
 use Rattle.block_records.specs.layout.Zeros.{is_zero_id, zero_id, zero_shard}
 use Rattle.block_records.specs.rules.BlockId.{is_masterchain, less_shard, same_id, same_shard}
 use Rattle.block_records.specs.rules.Limits.{ids_limit, shards_limit}
-use Rattle.block_records.specs.rules.Lists.{padded, rising}
+use Rattle.block_records.specs.rules.Lists.{rising}
 use Rattle.block_records.specs.rules.Questions.{Question, ask, first_no, seqno_fits}
-use Rattle.blocks_group.specs.layout.Group.{pack_group, pack_master_group, same_group, same_master_group, sound_group, sound_master_group, view_group, view_master_group, zero_group, zero_master_group}
-use Rattle.blocks_group.specs.rules.Soundness.{of_shard}
 use Rattle.cache_rules.specs.Calls.{Answer, Call, Outcome, refused}
 use Rattle.cache_rules.specs.Effects.{effect, outcome_of}
 use Rattle.cache_rules.specs.Model.{Model, ShardModel, empty_model, id_before}
 use Rattle.cache_rules.specs.Refusals.{further, id_masterchain, sound_model, sound_range}
 
+-- shard groups, 8 at most
+abbrev pub Shards : Type 0
+Shards = Listed ShardGroup shards_limit
+
 -- a shard's group as it is held
 abbrev pub pack_shard : ShardModel → ShardGroup
-pack_shard g = record { shard = g.shard; group = pack_group g.group }
+pack_shard g = record { shard = g.shard; group = pack_group shard_parts g.group }
 
 -- what a shard's group stands for
 abbrev pub view_shard : ShardGroup → ShardModel
-view_shard g = record { shard = g.shard; group = view_group g.group }
+view_shard g = record { shard = g.shard; group = view_group shard_parts g.group }
 
 -- an unused place: the zero shard and the zero group
 unfoldable pub zero_shard_group : ShardGroup
-zero_shard_group = record { shard = zero_shard; group = zero_group }
+zero_shard_group = record { shard = zero_shard; group = held_empty_group shard_parts }
 
 -- the lists first, zeros after them
 abbrev pub pack : Model → Cache
 pack m =
     record {
       zerostate_mc_seqno = m.zerostate;
-      masters = pack_master_group m.masters;
+      masters = pack_group master_parts m.masters;
       «data» = record { ids = packed ids_limit zero_id m.ids; range = m.range };
-      shards = padded shards_limit zero_shard_group (map pack_shard m.shards);
-      shard_count = length m.shards;
+      shards = packed shards_limit zero_shard_group (map pack_shard m.shards);
     }
 
 -- the first places of each array, as many as its count says
@@ -54,10 +59,10 @@ abbrev pub view : Cache → Model
 view c =
     record {
       zerostate = c.zerostate_mc_seqno;
-      masters = view_master_group c.masters;
-      ids = take c.«data».ids.count c.«data».ids.items;
+      masters = view_group master_parts c.masters;
+      ids = listed c.«data».ids;
       range = c.«data».range;
-      shards = map view_shard (take c.shard_count c.shards);
+      shards = map view_shard (listed c.shards);
     }
 
 -- ===== equality, as tests =====
@@ -76,7 +81,7 @@ same_data a b = a.ids.count == b.ids.count && (same_range a.range b.range && poi
 
 -- the same shard and group
 unfoldable pub same_shard_group : ShardGroup → ShardGroup → Bool
-same_shard_group a b = same_shard a.shard b.shard && same_group a.group b.group
+same_shard_group a b = same_shard a.shard b.shard && same_group shard_parts a.group b.group
 
 -- the place is unused
 abbrev pub is_zero_shard_group : ShardGroup → Bool
@@ -85,8 +90,8 @@ is_zero_shard_group g = same_shard_group g zero_shard_group
 -- the same in every field and every place
 unfoldable pub same_cache : Cache → Cache → Bool
 same_cache a b =
-    (a.shard_count == b.shard_count) && (a.zerostate_mc_seqno == b.zerostate_mc_seqno
-    && (same_data a.«data» b.«data» && (same_master_group a.masters b.masters && pointwise same_shard_group a.shards b.shards)))
+    (a.shards.count == b.shards.count) && (a.zerostate_mc_seqno == b.zerostate_mc_seqno
+    && (same_data a.«data» b.«data» && (same_group master_parts a.masters b.masters && pointwise same_shard_group a.shards.items b.shards.items)))
 
 -- tidy: a cache is the packing of what it stands for
 abbrev pub cache_tidy : Cache → Bool
@@ -106,25 +111,25 @@ shard_group_before a b = less_shard a.shard b.shard
 
 -- a shard's group: not of the masterchain, and sound for its shard
 abbrev pub sound_shard_group : ShardGroup → Bool
-sound_shard_group g = not (is_masterchain g.shard) && sound_group (of_shard g.shard) g.group
+sound_shard_group g = not (is_masterchain g.shard) && sound_group shard_parts (of_shard g.shard) g.group
 
 -- last collated ids: no more than their places, zeros after them, rising by seqno, all of the masterchain
 abbrev pub sound_ids : MasterData → Bool
 sound_ids d =
     nat_le d.ids.count ids_limit && (list_all is_zero_id (drop d.ids.count d.ids.items)
-    && (rising id_before (take d.ids.count d.ids.items) && list_all id_masterchain (take d.ids.count d.ids.items)))
+    && (rising id_before (listed d.ids) && list_all id_masterchain (listed d.ids)))
 
 -- shard groups: no more than their places, zeros after them, rising by shard, each sound
-abbrev pub sound_shards : ℕ → List ShardGroup → Bool
-sound_shards n gs =
-    nat_le n shards_limit && (list_all is_zero_shard_group (drop n gs)
-    && (rising shard_group_before (take n gs) && list_all sound_shard_group (take n gs)))
+abbrev pub sound_shards : Shards → Bool
+sound_shards s =
+    nat_le s.count shards_limit && (list_all is_zero_shard_group (drop s.count s.items)
+    && (rising shard_group_before (listed s) && list_all sound_shard_group (listed s)))
 
 -- the master group, the range by its mark, the last collated ids and the shard groups
 abbrev pub sound_cache_by_parts : Cache → Bool
 sound_cache_by_parts c =
-    sound_master_group c.masters && (sound_range c.masters.group.mark c.«data».range
-    && (sound_ids c.«data» && sound_shards c.shard_count c.shards))
+    sound_group master_parts is_masterchain c.masters && (sound_range c.masters.mark c.«data».range
+    && (sound_ids c.«data» && sound_shards c.shards))
 
 -- what a call leaves and answers, with the slice that was lent
 pub record HeldOutcome : Type 0 where
@@ -161,10 +166,9 @@ unfoldable pub zero_cache : ℕ → ℕ → Cache
 zero_cache zerostate count =
     record {
       zerostate_mc_seqno = zerostate;
-      masters = zero_master_group;
+      masters = held_empty_group master_parts;
       «data» = record { ids = packed ids_limit zero_id []; range = None };
-      shards = replicate shards_limit zero_shard_group;
-      shard_count = count;
+      shards = record { count = count; items = replicate shards_limit zero_shard_group };
     }
 
 -- Beside a refusal stands a cache that is not sound: its count of shard groups is 9.

@@ -3,7 +3,7 @@
 use Rattle.block_records.specs.declared.questions.Refusal.TheVariants.{Unsound}
 use Rattle.std.specs.Prelude.{◌≡◌, ℕ, List, [], ◌∷◌, ◌++◌, replicate, refl, map}
 use Rattle.block_records.specs.declared.entry.BlockCacheEntry.{BlockCacheEntry}
-use Rattle.block_records.specs.layout.Listed.{TopBlocks}
+use Rattle.block_records.specs.declared.entry.MasterBlock.{MasterBlock}
 use Rattle.blocks_cache.specs.declared.cache.Cache.{Cache}
 use Rattle.blocks_cache.specs.declared.cache.ShardGroup.{ShardGroup}
 use Rattle.blocks_group.specs.declared.group.Group.{Group}
@@ -11,8 +11,9 @@ use Rattle.block_records.specs.layout.Equality.{same_entry}
 use Rattle.block_records.specs.layout.Zeros.{zero_entry, zero_hash, zero_id, zero_prev_ids, zero_shard, zero_top, zero_tops}
 use Rattle.block_records.specs.rules.BlockId.{less_id, less_shard}
 use Rattle.block_records.specs.rules.Lists.{padded}
+use Rattle.blocks_cache.specs.arrays.Cache.{with_master_group, with_shard_groups}
 use Rattle.blocks_cache.specs.layout.Cache.{call_on, pack, same_cache, same_data, same_shard_group, sound_cache, zero_shard_group}
-use Rattle.blocks_group.specs.layout.Group.{same_group, same_master_group, zero_group}
+use Rattle.blocks_group.specs.layout.Group.{ShardBlocks, held_empty_group, same_group}
 use Rattle.cache_rules.specs.Calls.{Answer, nothing, peek, refused}
 use Rattle.cache_rules.specs.CaseCalls.{ask_call, block, cand, candidate, coll, hash, mc, sc}
 use Rattle.cache_rules.specs.Effects.{after, effect, step}
@@ -40,52 +41,36 @@ with_prev_count n b =
       «data» = b.«data»;
     }
 
--- top items with this count
-pub with_tops_count : ℕ → TopBlocks → TopBlocks
-with_tops_count n t = record { items = t.items; count = n }
+-- a master block with its entry changed
+pub on_entry : (BlockCacheEntry → BlockCacheEntry) → MasterBlock → MasterBlock
+on_entry f b = record { entry = f b.entry; tops = b.tops }
 
--- a group with its entries changed
-pub with_held_entries : (List BlockCacheEntry → List BlockCacheEntry) → Group → Group
-with_held_entries f g = record { entries = f g.entries; count = g.count; mark = g.mark; boundary = g.boundary }
+-- a master block with this count of top items
+pub with_tops_count : ℕ → MasterBlock → MasterBlock
+with_tops_count n b = record { entry = b.entry; tops = record { items = b.tops.items; count = n } }
 
--- a cache with its master entries and their top items changed
-pub with_held_masters : (Group → Group) → (List TopBlocks → List TopBlocks) → Cache → Cache
-with_held_masters f t c =
-    record {
-      zerostate_mc_seqno = c.zerostate_mc_seqno;
-      masters = record { group = f c.masters.group; tops = t c.masters.tops };
-      «data» = c.«data»;
-      shards = c.shards;
-      shard_count = c.shard_count;
-    }
-
--- a shard's group changed
-pub on_group : (Group → Group) → ShardGroup → ShardGroup
-on_group f g = record { shard = g.shard; group = f g.group }
-
--- a cache with its shard groups changed
-pub with_held_shards : (List ShardGroup → List ShardGroup) → Cache → Cache
-with_held_shards f c =
-    record { zerostate_mc_seqno = c.zerostate_mc_seqno; masters = c.masters; «data» = c.«data»; shards = f c.shards; shard_count = c.shard_count }
+-- a group with its first block changed
+pub on_first_block : {B : Type 0} → (B → B) → Group B → Group B
+on_first_block f g = record { mark = g.mark; boundary = g.boundary; entries = record { count = g.entries.count; items = on_first f g.entries.items } }
 
 -- a group with this count
-pub with_count : ℕ → Group → Group
-with_count n g = record { entries = g.entries; count = n; mark = g.mark; boundary = g.boundary }
+pub with_count : {B : Type 0} → ℕ → Group B → Group B
+with_count n g = record { mark = g.mark; boundary = g.boundary; entries = record { count = n; items = g.entries.items } }
 
--- the value itself
-pub unchanged : {A : Type 0} → A → A
-unchanged x = x
+-- a shard's group changed
+pub on_group : (ShardBlocks → ShardBlocks) → ShardGroup → ShardGroup
+on_group f g = record { shard = g.shard; group = f g.group }
 
 -- a master's and a shard block's previous ids with a count of 3, a master's top items with a count of 9, a count of 1 over zeros, a group's
--- count of 17; and the cache as it was
+-- count of 17, and one of 0; and the cache as it was
 pub altered : List Cache
 altered =
-    with_held_masters (with_held_entries (on_first (with_prev_count 3))) unchanged held_cache
-    ∷ with_held_masters unchanged (on_first (with_tops_count 9)) held_cache
-    ∷ with_held_shards (on_first (on_group (with_held_entries (on_first (with_prev_count 3))))) held_cache
-    ∷ with_held_masters (with_held_entries (on_first (with_prev_count 1))) unchanged held_cache
-    ∷ with_held_masters (with_count 17) unchanged held_cache
-    ∷ with_held_masters (with_count 0) unchanged held_cache
+    with_master_group (on_first_block (on_entry (with_prev_count 3)) held_cache.masters) held_cache
+    ∷ with_master_group (on_first_block (with_tops_count 9) held_cache.masters) held_cache
+    ∷ with_shard_groups (on_first (on_group (on_first_block (with_prev_count 3))) held_cache.shards.items) held_cache
+    ∷ with_master_group (on_first_block (on_entry (with_prev_count 1)) held_cache.masters) held_cache
+    ∷ with_master_group (with_count 17 held_cache.masters) held_cache
+    ∷ with_master_group (with_count 0 held_cache.masters) held_cache
     ∷ held_cache ∷ []
 
 -- what a peek from 0 answers
@@ -94,5 +79,5 @@ peek_answer c = (call_on c (ask_call (peek 0))).answer
 
 -- all but the last are refused by question 1
 pub cached_edges : map peek_answer altered ≡ replicate 6 (refused Unsound) ++ (nothing ∷ [])
-unfolding step less_shard less_id after sound_model effect further call_on sound_cache same_cache same_data same_shard_group same_group same_master_group same_entry padded zero_shard zero_hash zero_id zero_prev_ids zero_top zero_tops zero_entry zero_group zero_shard_group hash block mc sc candidate ask_call cand coll held_cache on_first with_prev_count with_tops_count with_held_entries with_held_masters on_group with_held_shards with_count unchanged altered peek_answer
+unfolding step less_shard less_id after sound_model effect further call_on sound_cache same_cache same_data same_shard_group same_group same_entry padded zero_shard zero_hash zero_id zero_prev_ids zero_top zero_tops zero_entry held_empty_group zero_shard_group hash block mc sc candidate ask_call cand coll held_cache on_first with_prev_count on_entry with_tops_count on_first_block with_count on_group altered peek_answer
 cached_edges = refl

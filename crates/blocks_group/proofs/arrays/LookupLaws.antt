@@ -10,17 +10,19 @@ use Prim.Native.Nat.{◌≤◌, ℕ}
 use native.Mathlib.Omega.{arith}
 use borrow.Author.Tests.{eq-eqb, eqb-true, ltb-false, ltb-true, ne_eqb}
 use lib.Dec.{eqb, ltb}
-use Rattle.block_records.proofs.arrays.PlaceLaws.{next_place}
+use Rattle.std.specs.Ordering.{is_eq, is_lt, nat_cmp}
+use Rattle.block_records.proofs.arrays.PlaceLaws.{next_place, place_each}
+use Rattle.block_records.proofs.rules.BlockIdLaws.{nat_eq_is, nat_lt_is}
 use Rattle.block_records.proofs.rules.ListLaws.{every_select, every_weaken}
 use Rattle.block_records.proofs.rules.Tests.{and_left, and_right, not_true, on}
 use Rattle.block_records.specs.arrays.Place.{place}
 use Rattle.block_records.specs.rules.Lists.{put, rising}
 use Rattle.blocks_group.proofs.arrays.SearchLaws.{seqno_place_cons}
-use Rattle.blocks_group.specs.arrays.Group.{at_place, when_found}
-use Rattle.blocks_group.specs.arrays.Search.{seqno_place}
+use Rattle.blocks_group.specs.arrays.Group.{found_at}
+use Rattle.blocks_group.specs.arrays.Search.{number_below, number_is, seqno_place}
 
 -- what stands at a place is found one place further with an element more in front
-pub at_next : {A : Type 0} (z x : A) (xs : List A) (p : Result ℕ ℕ) → when_found (next_place p) (at_place z (x ∷ xs) (next_place p)) ≡ when_found p (at_place z xs p)
+pub at_next : {A : Type 0} (z x : A) (xs : List A) (p : Result ℕ ℕ) → found_at z (x ∷ xs) (next_place p) ≡ found_at z xs p
 at_next z x xs (Ok k) = refl
 at_next z x xs (Err k) = refl
 
@@ -53,9 +55,14 @@ module _ {A : Type 0} (f : A → ℕ) where
       (every_weaken (by_f x) (λ (y : A). not (eqb (f y) n)) xs
       (λ y t. let m = ltb-true (f x) (f y) t in rw (ne_eqb (f y) n (λ e. omega arith))) h)
 
+  -- a search that compares the numbers
+  pub searched : (n : ℕ) (xs : List A) → place (λ (x : A). is_lt (nat_cmp (f x) n)) (λ (x : A). is_eq (nat_cmp (f x) n)) xs ≡ seqno_place n (map f xs)
+  searched n xs =
+      (λ i. place (λ (x : A). nat_lt_is (f x) n i) (λ (x : A). nat_eq_is (f x) n i) xs) ∙ sym (place_each f (number_below n) (number_is n) xs)
+
   -- ===== the search answers with what stands at the number =====
 
-  pub seqno_place_finds : (n : ℕ) (z : A) (xs : List A) → rising by_f xs ≡ true → when_found (seqno_place n (map f xs)) (at_place z xs (seqno_place n (map f xs))) ≡ find (λ (y : A). eqb (f y) n) xs
+  pub seqno_place_finds : (n : ℕ) (z : A) (xs : List A) → rising by_f xs ≡ true → found_at z xs (seqno_place n (map f xs)) ≡ find (λ (y : A). eqb (f y) n) xs
   unfolding place
   seqno_place_finds n z [] r = refl
   seqno_place_finds n z (x ∷ xs) r =

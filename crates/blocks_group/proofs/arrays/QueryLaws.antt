@@ -1,35 +1,35 @@
 -- On a packed group, what pop, peek, collect and remove next collated ask is what the rules say of the model; and that the ids which go with the
 -- removed masters are those by the highest, resp. the lowest, of their seqnos.
 -- Assumes nothing.
-use Rattle.std.specs.List.{find, fold}
-use Rattle.std.specs.Prelude.{Option, option_map, None, Some, map, cond, is_some, filter, Ok, Result}
-use mathlib.Core.Bool.{Bool, ◌&&◌, not, true}
+use Rattle.std.specs.List.{find, fold, list_any}
+use Rattle.std.specs.Prelude.{Option, option_map, None, Some, map, is_some, filter}
+use mathlib.Core.Bool.{Bool, ◌&&◌, false, not, true}
 use mathlib.Core.List.{List, [], ◌∷◌}
-use mathlib.Core.Path.{◌∙◌, ◌≡◌, ap, ap₂, refl, sym}
-use Prim.Native.Nat.{suc, ℕ}
+use mathlib.Core.Path.{◌∙◌, ◌≡◌, ap, refl, sym}
+use Prim.Native.Nat.{◌+◌, ◌<◌, ◌≤◌, ℕ}
+use lib.ListN.{drop, get_or, length}
 use native.Mathlib.Omega.{arith}
 use borrow.Author.Tests.{le-leb, leb-true, lt-ltb, ltb-false, ltb-true}
 use lib.Dec.{leb, ltb}
 use Rattle.block_records.specs.declared.block_id.BlockIdShort.{BlockIdShort}
-use Rattle.block_records.specs.declared.entry.BlockCacheEntry.{BlockCacheEntry}
-use Rattle.block_records.specs.declared.entry.MasterBlock.{MasterBlock}
-use Rattle.block_records.proofs.arrays.ArrayLaws.{each_each, each_select}
-use Rattle.block_records.proofs.arrays.PlaceLaws.{next_place}
+use Rattle.block_records.proofs.arrays.ArrayLaws.{each_select}
+use Rattle.std.proofs.lemmas.List.{drop_all}
+use Rattle.block_records.proofs.arrays.ListedLaws.{any_finds}
+use Rattle.block_records.proofs.arrays.LoopLaws.{drop_next}
 use Rattle.block_records.proofs.rules.Tests.{on}
-use Rattle.block_records.specs.arrays.Place.{first_place}
-use Rattle.block_records.specs.layout.Entry.{pack_entry, pack_master}
-use Rattle.block_records.specs.layout.Zeros.{zero_master}
-use Rattle.block_records.specs.rules.Entry.{Entry, is_applied}
-use Rattle.blocks_group.proofs.arrays.GroupLaws.{collected_masters_packed, collected_packed, listed_packed, masters_packed, without_collated_above_packed, without_collated_masters_above_packed}
-use Rattle.blocks_group.proofs.arrays.LookupLaws.{at_next, find_each}
+use Rattle.block_records.specs.rules.Entry.{Entry, is_applied, kind_applied, kind_received}
+use Rattle.blocks_group.specs.declared.group.Group.{Group}
+use Rattle.block_records.specs.layout.Listed.{listed}
+use Rattle.blocks_group.proofs.arrays.GroupLaws.{collected_packed, without_collated_above_packed}
+use Rattle.blocks_group.proofs.arrays.LookupLaws.{find_each}
 use Rattle.blocks_group.proofs.arrays.SoundnessLaws.{and_false}
+use Rattle.blocks_group.proofs.layout.BlockLaws.{packed_kind, packed_seqno}
+use Rattle.blocks_group.proofs.layout.GroupLaws.{listed_packed}
 use Rattle.blocks_group.proofs.rules.GroupLaws.{entry_seqno}
-use Rattle.blocks_group.specs.arrays.Group.{answered_master, at_place, held_seqno, when_found}
-use Rattle.blocks_group.specs.arrays.Queries.{any_applied_above, chosen, collect_group, collect_masters, collected_by, first_applied_master, first_applied_place, held_applied_above, held_applied_from, held_below_boundary, held_collated_above, higher_of, highest_below_boundary, highest_seqno, lower_of, lowest_collated_above, lowest_seqno, masters_collected_by, remove_collated_above, remove_collated_masters_above, seqnos_of}
-use Rattle.blocks_group.specs.layout.Group.{pack_group, pack_master_group}
+use Rattle.blocks_group.specs.arrays.Queries.{any_applied_above, held_applied_above, held_applied_from, below_group_boundary, block_collated_above, chosen, collect_group, collected_by, first_applied_block, higher_of, highest_below_boundary, highest_seqno, lower_of, lowest_collated_above, lowest_seqno, remove_collated_above, seqnos_of}
+use Rattle.blocks_group.specs.layout.Block.{BlockLaws, BlockParts, block_seqno, pack_block}
+use Rattle.blocks_group.specs.layout.Group.{pack_group}
 use Rattle.blocks_group.specs.rules.Group.{GroupModel, below_boundary, collated_above, collected, with_entries, without_collated_above}
-
--- ===== applied entries =====
 
 -- the model's reading: applied, at or above f; applied, above n
 abbrev pub entry_applied_from : ℕ → Entry → Bool
@@ -38,63 +38,9 @@ entry_applied_from f e = leb f e.id.seqno && is_applied e
 abbrev pub entry_applied_above : ℕ → Entry → Bool
 entry_applied_above n e = ltb n e.id.seqno && is_applied e
 
-module _ {A : Type 0} where
-  first_shifted : (p : A → Bool) (i : ℕ) (xs : List A) → first_place p (suc i) xs ≡ next_place (first_place p i xs)
-  first_shifted p i [] = refl
-  first_shifted p i (x ∷ xs) = on (p x) (λ t. rw t) (λ t. rw t (first_shifted p (suc i) xs))
-
-module _ {A B : Type 0} where
-  first_image : (f : A → B) (p : A → Bool) (q : B → Bool) → ((x : A) → q (f x) ≡ p x) → (i : ℕ) (xs : List A) → first_place q i (map f xs) ≡ first_place p i xs
-  first_image f p q same i [] = refl
-  first_image f p q same i (x ∷ xs) =
-      ap₂ (λ (b : Bool) (r : Result ℕ ℕ). cond b (Ok i) r) (same x) (first_image f p q same (suc i) xs)
-
-  -- what stands at the first place that passes is the first that passes
-  first_finds : (f : A → B) (p : A → Bool) (z : B) (xs : List A) →
-      when_found (first_place p 0 xs) (at_place z (map f xs) (first_place p 0 xs)) ≡ option_map f (find p xs)
-  first_finds f p z [] = refl
-  first_finds f p z (x ∷ xs) =
-      on (p x)
-      (λ t. rw t)
-      (λ t. rw (t, first_shifted p 0 xs) (at_next z (f x) (map f xs) (first_place p 0 xs) ∙ first_finds f p z xs))
-
-pub first_applied_packed : (f : ℕ) (m : GroupModel) → answered_master (first_applied_master f (pack_master_group m)) ≡ option_map pack_master (find (entry_applied_from f) m.entries)
-first_applied_packed f m =
-    let e : first_applied_place f (pack_group m) ≡ first_place (entry_applied_from f) 0 m.entries =
-    ap (first_place (held_applied_from f) 0) (listed_packed m) ∙ first_image pack_entry (entry_applied_from f) (held_applied_from f) (λ e. refl) 0 m.entries in
-    ap₂ (λ (p : Result ℕ ℕ) (bs : List MasterBlock). when_found p (at_place zero_master bs p)) e (masters_packed m) ∙ first_finds pack_master (entry_applied_from f) zero_master m.entries
-
 present_map : {A B : Type 0} (f : A → B) (o : Option A) → is_some (option_map f o) ≡ is_some o
 present_map f None = refl
 present_map f (Some a) = refl
-
-pub applied_above_packed : (n : ℕ) (m : GroupModel) → any_applied_above n (pack_group m) ≡ is_some (find (entry_applied_above n) m.entries)
-applied_above_packed n m =
-    ap (λ (bs : List BlockCacheEntry). is_some (find (held_applied_above n) bs)) (listed_packed m)
-    ∙ ap is_some (find_each pack_entry (entry_applied_above n) (held_applied_above n) (λ e. refl) m.entries)
-    ∙ present_map pack_entry (find (entry_applied_above n) m.entries)
-
--- ===== the highest and the lowest seqno =====
-
-module _ (p : Entry → Bool) (q : BlockCacheEntry → Bool) (same : (e : Entry) → q (pack_entry e) ≡ p e) (m : GroupModel) where
-  seqnos_packed : seqnos_of q (pack_group m) ≡ map entry_seqno (filter p m.entries)
-  seqnos_packed =
-      ap (λ (bs : List BlockCacheEntry). map held_seqno (filter q bs)) (listed_packed m) ∙ ap (map held_seqno) (each_select pack_entry p q same m.entries)
-      ∙ each_each held_seqno pack_entry (filter p m.entries)
-
-below_same : (o : Option BlockIdShort) (e : Entry) → held_below_boundary (o) (pack_entry e) ≡ below_boundary o e
-below_same None e = refl
-below_same (Some k) e = refl
-
-pub highest_below_boundary_packed : (m : GroupModel) → highest_below_boundary (pack_group m) ≡ (highest_seqno (map entry_seqno (filter (below_boundary m.boundary) m.entries)))
-highest_below_boundary_packed m =
-    ap (λ (ns : List ℕ). (highest_seqno ns)) (seqnos_packed (below_boundary m.boundary) (held_below_boundary (m.boundary)) (below_same m.boundary) m)
-
-pub lowest_collated_above_packed : (n : ℕ) (m : GroupModel) → lowest_collated_above n (pack_group m) ≡ (lowest_seqno (map entry_seqno (filter (collated_above n) m.entries)))
-lowest_collated_above_packed n m =
-    ap (λ (ns : List ℕ). (lowest_seqno ns)) (seqnos_packed (collated_above n) (held_collated_above n) (λ e. refl) m)
-
--- ===== collect, remove next collated =====
 
 select_all : {A : Type 0} (xs : List A) → filter (λ (x : A). true) xs ≡ xs
 select_all [] = refl
@@ -105,26 +51,82 @@ collected_none : (m : GroupModel) → m.boundary ≡ None → collected m ≡ m
 collected_none m e =
     ap (λ (o : Option BlockIdShort). with_entries (filter (λ (e : Entry). not (below_boundary o e)) m.entries) m) e ∙ ap (λ (es : List Entry). with_entries es m) (select_all m.entries)
 
-module _ (m : GroupModel) where
-  collect_group_by : (o : Option BlockIdShort) → m.boundary ≡ o → collected_by (o) (pack_group m) ≡ pack_group (collected m)
-  collect_group_by None e = ap pack_group (sym (collected_none m e))
-  collect_group_by (Some k) e = collected_packed m k e
+-- ===== one turn of the loop that chooses among the numbers of those that pass: what is left to be chosen from =====
 
-  collect_masters_by : (o : Option BlockIdShort) → m.boundary ≡ o → masters_collected_by (o) (pack_master_group m) ≡ pack_master_group (collected m)
-  collect_masters_by None e = ap pack_master_group (sym (collected_none m e))
-  collect_masters_by (Some k) e = collected_masters_packed m k e
+module _ {A : Type 0} (s : A → ℕ) (p : A → Bool) (f : ℕ → ℕ → ℕ) where
+  abbrev pub chosen_from : Option ℕ → List A → Option ℕ
+  chosen_from best xs = fold (chosen f) best (map s (filter p xs))
 
-  pub collect_group_packed : collect_group (pack_group m) ≡ pack_group (collected m)
-  collect_group_packed = collect_group_by m.boundary refl
+  module _ (xs : List A) (i : ℕ) (x : A) (here : x ≡ get_or xs i x) (within : i < length xs) (best : Option ℕ) where
+    split : drop i xs ≡ x ∷ drop (i + 1) xs
+    split = drop_next xs i x within ∙ ap (λ (y : A). y ∷ drop (i + 1) xs) (sym here)
 
-  pub collect_masters_packed : collect_masters (pack_master_group m) ≡ pack_master_group (collected m)
-  collect_masters_packed = collect_masters_by m.boundary refl
+    pub chosen_yes : p x ≡ true → chosen_from best (drop i xs) ≡ chosen_from (chosen f best (s x)) (drop (i + 1) xs)
+    chosen_yes t = ap (chosen_from best) split ∙ rw t
 
-  pub remove_collated_above_packed : (n : ℕ) → remove_collated_above n (pack_group m) ≡ pack_group (without_collated_above n m)
-  remove_collated_above_packed n = without_collated_above_packed m n
+    pub chosen_no : p x ≡ false → chosen_from best (drop i xs) ≡ chosen_from best (drop (i + 1) xs)
+    chosen_no t = ap (chosen_from best) split ∙ rw t
 
-  pub remove_collated_masters_above_packed : (n : ℕ) → remove_collated_masters_above n (pack_master_group m) ≡ pack_master_group (without_collated_above n m)
-  remove_collated_masters_above_packed n = without_collated_masters_above_packed m n
+  pub chosen_end : (xs : List A) (i : ℕ) (best : Option ℕ) → length xs ≤ i → chosen_from best (drop i xs) ≡ best
+  chosen_end xs i best h = ap (chosen_from best) (drop_all i xs h)
+
+module _ {B : Type 0} (k : BlockParts B) (h : BlockLaws k) where
+  -- ===== applied blocks =====
+
+  pub first_applied_packed : (f : ℕ) (m : GroupModel) → first_applied_block k f (pack_group k m) ≡ option_map (pack_block k) (find (entry_applied_from f) m.entries)
+  first_applied_packed f m =
+      ap (find (held_applied_from k f)) (listed_packed k m)
+      ∙ find_each (pack_block k) (entry_applied_from f) (held_applied_from k f) (λ e. λ i. leb f (packed_seqno k h e i) && kind_applied (packed_kind k h e i)) m.entries
+
+  pub applied_above_packed : (n : ℕ) (m : GroupModel) → any_applied_above k n (pack_group k m) ≡ is_some (find (entry_applied_above n) m.entries)
+  applied_above_packed n m =
+      ap (list_any (held_applied_above k n)) (listed_packed k m) ∙ any_finds (held_applied_above k n) (map (pack_block k) m.entries)
+      ∙ ap is_some (find_each (pack_block k) (entry_applied_above n) (held_applied_above k n) (λ e. λ i. ltb n (packed_seqno k h e i) && kind_applied (packed_kind k h e i)) m.entries)
+      ∙ present_map (pack_block k) (find (entry_applied_above n) m.entries)
+
+  -- ===== the highest and the lowest seqno =====
+
+  seqnos_map : (es : List Entry) → map (block_seqno k) (map (pack_block k) es) ≡ map entry_seqno es
+  seqnos_map [] = refl
+  seqnos_map (e ∷ es) = λ i. packed_seqno k h e i ∷ seqnos_map es i
+
+  module _ (p : Entry → Bool) (q : B → Bool) (same : (e : Entry) → q (pack_block k e) ≡ p e) (m : GroupModel) where
+    seqnos_packed : seqnos_of k q (pack_group k m) ≡ map entry_seqno (filter p m.entries)
+    seqnos_packed =
+        ap (λ (bs : List B). map (block_seqno k) (filter q bs)) (listed_packed k m) ∙ ap (map (block_seqno k)) (each_select (pack_block k) p q same m.entries)
+        ∙ seqnos_map (filter p m.entries)
+
+  -- without a boundary no block is below it
+  pub none_below : (g : Group B) → highest_seqno (seqnos_of k (below_group_boundary k None) g) ≡ None
+  none_below g = ap (λ (bs : List B). highest_seqno (map (block_seqno k) bs)) (none_passes (listed g.entries))
+    where
+      none_passes : (bs : List B) → filter (below_group_boundary k None) bs ≡ []
+      none_passes [] = refl
+      none_passes (b ∷ bs) = none_passes bs
+
+  below_same : (o : Option BlockIdShort) (e : Entry) → below_group_boundary k o (pack_block k e) ≡ below_boundary o e
+  below_same None e = refl
+  below_same (Some key) e = ap (λ (s : ℕ). ltb s key.seqno) (packed_seqno k h e)
+
+  pub highest_below_boundary_packed : (m : GroupModel) → highest_below_boundary k (pack_group k m) ≡ highest_seqno (map entry_seqno (filter (below_boundary m.boundary) m.entries))
+  highest_below_boundary_packed m = ap highest_seqno (seqnos_packed (below_boundary m.boundary) (below_group_boundary k m.boundary) (below_same m.boundary) m)
+
+  pub lowest_collated_above_packed : (n : ℕ) (m : GroupModel) → lowest_collated_above k n (pack_group k m) ≡ lowest_seqno (map entry_seqno (filter (collated_above n) m.entries))
+  lowest_collated_above_packed n m =
+      ap lowest_seqno (seqnos_packed (collated_above n) (block_collated_above k n) (λ e. λ i. ltb n (packed_seqno k h e i) && not (kind_received (packed_kind k h e i))) m)
+
+  -- ===== collect, remove next collated =====
+
+  module _ (m : GroupModel) where
+    collect_by : (o : Option BlockIdShort) → m.boundary ≡ o → collected_by k o (pack_group k m) ≡ pack_group k (collected m)
+    collect_by None e = ap (pack_group k) (sym (collected_none m e))
+    collect_by (Some key) e = collected_packed k h m key e
+
+    pub collect_group_packed : collect_group k (pack_group k m) ≡ pack_group k (collected m)
+    collect_group_packed = collect_by m.boundary refl
+
+    pub remove_collated_above_packed : (n : ℕ) → remove_collated_above k n (pack_group k m) ≡ pack_group k (without_collated_above n m)
+    remove_collated_above_packed n = without_collated_above_packed k h m n
 
 -- ===== ids that go with the removed masters =====
 

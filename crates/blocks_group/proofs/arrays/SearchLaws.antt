@@ -5,39 +5,18 @@ use Rattle.std.specs.List.{list_all}
 use mathlib.Core.Bool.{Bool, false, true}
 use mathlib.Core.List.{List, [], ◌∷◌}
 use mathlib.Core.Path.{◌≡◌, ap, refl, sym}
-use Prim.Native.Nat.{◌+◌, ◌<◌, ◌≤◌, suc, suc-le-suc, zero, ℕ}
+use Prim.Native.Nat.{◌<◌, ◌≤◌, suc, suc-le-suc, zero, ℕ}
 use native.Mathlib.Nat.{le_of_suc-le-suc}
-use native.Mathlib.Numerals.{add-one}
 use native.Mathlib.Omega.{arith}
 use borrow.Author.Tests.{eq-eqb, eqb-false, eqb-true, le-ltb, lt-ltb, ltb-false, ltb-true, ne_eqb}
 use lib.Dec.{eqb, ltb}
-use lib.ListN.{drop, drop_of_length-le, get_or, length}
-use lib.Seq.{drop-cons}
+use lib.ListN.{get_or, length}
 use Rattle.block_records.proofs.arrays.ArrayLaws.{all_get_d}
 use Rattle.block_records.proofs.arrays.PlaceLaws.{next_place, place_cons}
 use Rattle.block_records.proofs.rules.Tests.{and_left, and_right}
-use Rattle.block_records.specs.arrays.Place.{place, place_from}
+use Rattle.block_records.specs.arrays.Place.{place}
 use Rattle.block_records.specs.rules.Lists.{rising}
 use Rattle.blocks_group.specs.arrays.Search.{IsPlace, number_below, number_is, seqno_place}
-
--- ===== one turn of a search that goes up, at place i; d is what a read past the end would give =====
-
--- what is left of the search from place i on
-abbrev pub seqno_place_from : ℕ → ℕ → List ℕ → Result ℕ ℕ
-seqno_place_from n i xs = place_from (number_below n) (number_is n) i xs
-
-module _ (n : ℕ) (xs : List ℕ) (i d : ℕ) where
-  pub seqno_place_next : i < length xs → get_or xs i d < n → seqno_place_from n i (drop i xs) ≡ seqno_place_from n (i + 1) (drop (i + 1) xs)
-  seqno_place_next h l = rw (add-one, drop-cons xs i d, lt-ltb _ _ l)
-
-  pub seqno_place_found : i < length xs → get_or xs i d ≡ n → seqno_place_from n i (drop i xs) ≡ Ok i
-  seqno_place_found h e = let l : n ≤ get_or xs i d = omega arith in rw (drop-cons xs i d, le-ltb _ _ l, eq-eqb _ _ e)
-
-  pub seqno_place_vacant : i < length xs → n ≤ get_or xs i d → (get_or xs i d ≡ n → ⊥) → seqno_place_from n i (drop i xs) ≡ Err i
-  seqno_place_vacant h l e = rw (drop-cons xs i d, le-ltb _ _ l, ne_eqb _ _ e)
-
-  pub seqno_place_end : length xs ≤ i → seqno_place_from n i (drop i xs) ≡ Err i
-  seqno_place_end h = rw (drop_of_length-le xs h)
 
 -- ===== the answer by the list's first number =====
 

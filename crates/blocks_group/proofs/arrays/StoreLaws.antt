@@ -10,31 +10,31 @@ use Prim.Native.Nat.{◌≤◌, ℕ}
 use borrow.Author.Tests.{eqb-true}
 use lib.Dec.{ltb}
 use lib.ListN.{length}
-use Rattle.block_records.specs.declared.entry.BlockCacheEntry.{BlockCacheEntry}
-use Rattle.block_records.specs.declared.entry.MasterBlock.{MasterBlock}
+use Rattle.block_records.specs.declared.block_id.BlockId.{BlockId}
+use Rattle.block_records.specs.declared.entry.BlockCacheEntryData.{BlockCacheEntryData}
 use Rattle.block_records.specs.declared.store_records.BlockCandidate.{BlockCandidate}
 use Rattle.block_records.specs.declared.store_records.ReceivedBlock.{ReceivedBlock}
 use Rattle.blocks_group.specs.declared.group.Group.{Group}
-use Rattle.blocks_group.specs.declared.group.MasterGroup.{MasterGroup}
 use Rattle.blocks_group.specs.declared.store.GroupStore.{GroupStore}
-use Rattle.blocks_group.specs.declared.store.MasterStore.{MasterStore}
 use Rattle.blocks_group.specs.declared.store.StoreAnswer.{StoreAnswer}
 use Rattle.blocks_group.specs.declared.store.StoreAnswer.TheVariants.{Stored as stored_answer, Synced as synced_answer}
+use Rattle.blocks_group.specs.declared.store.StoreStep.{StoreStep}
 use Rattle.block_records.proofs.rules.Finds.{find_passes}
 use Rattle.block_records.proofs.rules.ListLaws.{length_each}
 use Rattle.block_records.proofs.rules.Tests.{absurd_eq, on, some_not_none}
-use Rattle.block_records.specs.layout.Entry.{pack_entry, pack_master}
-use Rattle.block_records.specs.layout.Zeros.{zero_entry}
 use Rattle.block_records.specs.rules.BlockId.{same_id}
-use Rattle.block_records.specs.rules.Entry.{Entry, is_received}
+use Rattle.block_records.specs.rules.Entry.{Entry, fresh_received, is_received, kind_received, with_kind}
 use Rattle.block_records.specs.rules.Lists.{rising}
 use Rattle.block_records.specs.rules.Questions.{Question, ask, first_no}
-use Rattle.blocks_group.proofs.arrays.GroupLaws.{entry_at_packed, master_at_packed, put_entry_packed, put_master_packed, put_model_fits}
-use Rattle.blocks_group.proofs.layout.GroupLaws.{take_padded_each}
+use Rattle.blocks_group.proofs.arrays.GroupLaws.{block_at_packed, put_block_packed, put_model_fits, refresh_packed}
+use Rattle.blocks_group.proofs.layout.BlockLaws.{packed_entry, packed_kind, packed_with_kind}
+use Rattle.blocks_group.proofs.layout.GroupLaws.{listed_packed}
 use Rattle.blocks_group.proofs.rules.GroupLaws.{put_fits}
-use Rattle.blocks_group.specs.arrays.Store.{Step, collated_in, collated_master_in, collated_step, has_place, known_synced, put_change, put_master_change, put_master_refreshed, put_refreshed, received_in, received_master_in, received_step, refresh_group, refresh_masters, refused_step, store_collated_block, store_collated_master, store_received_block, store_received_master, stored_step, without_tops}
-use Rattle.blocks_group.specs.layout.Group.{pack_group, pack_master_group}
-use Rattle.blocks_group.specs.rules.Group.{GroupModel, Stored, at_seqno, changed_entries, entry_before, given_mark, has_seqno, refresh, store_collated_at, store_received_at, vacant_or, with_entries}
+use Rattle.blocks_group.specs.arrays.Group.{refresh_group}
+use Rattle.blocks_group.specs.arrays.Store.{collated_in, collated_step, has_place, put_change, put_refreshed, received_in, received_step, refused_step, collated_store, received_store, stored_step}
+use Rattle.blocks_group.specs.layout.Block.{BlockLaws, BlockParts, block_kind, pack_block, with_block_data}
+use Rattle.blocks_group.specs.layout.Group.{pack_group}
+use Rattle.blocks_group.specs.rules.Group.{GroupModel, Stored, at_seqno, changed_entries, collated_kind, entry_before, given_mark, has_seqno, received_kind, refresh, store_collated_at, store_received_at, vacant_or, with_entries}
 
 -- ===== the stores of the model =====
 
@@ -76,50 +76,6 @@ received_outcome zerostate r o g =
     (outcome (first_no (received_place_questions o (model_room g))) (store_received_at zerostate r o)
     (refresh r.block_id.seqno (with_change (store_received_at zerostate r o).change g)) g)
 
-abbrev pub pack_store : ModelStore → GroupStore
-pack_store s = record { answer = s.answer; group = pack_group s.group }
-
-abbrev pub pack_master_store : ModelStore → MasterStore
-pack_master_store s = record { answer = s.answer; masters = pack_master_group s.group }
-
--- ===== a step at a packed entry =====
-
--- the step of a rule's result, unless it is refused
-abbrev packed_step : Option Refusal → Stored → Step
-packed_step None s = stored_step s.both s.mismatch (option_map pack_master s.change)
-packed_step (Some refusal) s = refused_step refusal
-
-collated_step_packed : (c : BlockCandidate) (room : Bool) (o : Option Entry) →
-    collated_step c room (option_map pack_master o) ≡ packed_step (first_no (collated_place_questions o room)) (store_collated_at c o)
-unfolding collated_step
-collated_step_packed c true None = refl
-collated_step_packed c false None = refl
-collated_step_packed c room (Some e) =
-    on (is_received e) (λ t. rw t (on (same_id e.id c.block_id) (λ u. rw u) (λ u. rw u))) (λ t. rw t)
-
-received_step_packed : (z : ℕ) (r : ReceivedBlock) (room : Bool) (o : Option Entry) →
-    received_step z r room (option_map pack_master o) ≡ packed_step (first_no (received_place_questions o room)) (store_received_at z r o)
-unfolding received_step
-received_step_packed z r true None = refl
-received_step_packed z r false None = refl
-received_step_packed z r room (Some e) =
-    on (is_received e) (λ t. rw t) (λ t. rw t (on (same_id e.id r.block_id) (λ u. rw u) (λ u. rw u)))
-
--- in a shard's group the top items beside an entry make no difference
-collated_in_packed : (c : BlockCandidate) (room : Bool) (o : Option Entry) (g : Group) →
-    collated_in (collated_step c room (option_map without_tops (option_map pack_entry o))) g ≡ collated_in (collated_step c room (option_map pack_master o)) g
-unfolding collated_step
-collated_in_packed c room None g = refl
-collated_in_packed c room (Some e) g =
-    on (is_received e) (λ t. rw t (on (same_id e.id c.block_id) (λ u. rw u) (λ u. rw u))) (λ t. rw t)
-
-received_in_packed : (z : ℕ) (r : ReceivedBlock) (room : Bool) (n : ℕ) (o : Option Entry) (g : Group) →
-    received_in n (received_step z r room (option_map without_tops (option_map pack_entry o))) g ≡ received_in n (received_step z r room (option_map pack_master o)) g
-unfolding received_step
-received_in_packed z r room n None g = refl
-received_in_packed z r room n (Some e) g =
-    on (is_received e) (λ t. rw t) (λ t. rw t (on (same_id e.id r.block_id) (λ u. rw u) (λ u. rw u)))
-
 -- ===== what is put stands at the seqno, so that it fits =====
 
 abbrev StandsAt : ℕ → Option Entry → Type 0
@@ -153,134 +109,123 @@ module _ (n : ℕ) (g : GroupModel) (rises : rising entry_before g.entries ≡ t
   change_fits None s room = few
   change_fits (Some e) s room = put_fits n e g (at_seqno n g.entries) rises few refl s room
 
--- ===== a change put into a packed group =====
+-- a store of the model, as it is held
+abbrev pub pack_store : {B : Type 0} → BlockParts B → ModelStore → GroupStore B
+pack_store k s = record { answer = s.answer; group = pack_group k s.group }
 
-module _ (g : GroupModel) where
-  room_packed : has_place (pack_group g) ≡ model_room g
-  room_packed = ap (λ (bs : List BlockCacheEntry). ltb (length bs) 16) (take_padded_each 16 zero_entry pack_entry g.entries) ∙ ap (λ (n : ℕ). ltb n 16) (length_each pack_entry g.entries)
+module _ {B : Type 0} (k : BlockParts B) (h : BlockLaws k) where
+  -- ===== a step at a packed block =====
 
-  put_change_packed : (x : Option Entry) → length (changed_entries x g.entries) ≤ 16 → put_change (option_map pack_master x) (pack_group g) ≡ pack_group (with_change x g)
-  put_change_packed None h = refl
-  put_change_packed (Some e) h = put_entry_packed e g ∙ ap pack_group (put_model_fits e g h)
+  -- the step of a rule's result, unless it is refused
+  abbrev packed_step : Option Refusal → Stored → StoreStep B
+  packed_step None s = stored_step s.both s.mismatch (option_map (pack_block k) s.change)
+  packed_step (Some refusal) s = refused_step refusal
 
-  put_master_change_packed : (x : Option Entry) → length (changed_entries x g.entries) ≤ 16 →
-      put_master_change (option_map pack_master x) (pack_master_group g) ≡ pack_master_group (with_change x g)
-  put_master_change_packed None h = refl
-  put_master_change_packed (Some e) h = put_master_packed e g ∙ ap pack_master_group (put_model_fits e g h)
+  -- a block with the kind that a store makes of its own
+  changed_packed : (f : BlockCacheEntryData → BlockCacheEntryData) (e : Entry) →
+      with_block_data k (f (block_kind k (pack_block k e))) (pack_block k e) ≡ pack_block k (with_kind (f e.kind) e)
+  changed_packed f e = ap (λ (d : BlockCacheEntryData). with_block_data k (f d) (pack_block k e)) (packed_kind k h e) ∙ packed_with_kind k h (f e.kind) e
 
-  pub refresh_packed : (n : ℕ) → refresh_group n (pack_group g) ≡ pack_group (refresh n g)
-  refresh_packed n = refl
+  abbrev collated_at : BlockCandidate → BlockCacheEntryData → BlockId → B → StoreStep B
+  collated_at c d i b = cond (kind_received d) (cond (same_id i c.block_id) (stored_step true false (Some b)) (stored_step false true None)) (refused_step AlreadyStored)
 
-  pub refresh_masters_packed : (n : ℕ) → refresh_masters n (pack_master_group g) ≡ pack_master_group (refresh n g)
-  refresh_masters_packed n = refl
+  collated_step_packed : (c : BlockCandidate) (room : Bool) (o : Option Entry) →
+      collated_step k c room (option_map (pack_block k) o) ≡ packed_step (first_no (collated_place_questions o room)) (store_collated_at c o)
+  unfolding collated_step
+  collated_step_packed c true None = refl
+  collated_step_packed c false None = refl
+  collated_step_packed c room (Some e) =
+      (λ i. collated_at c (packed_kind k h e i) (packed_entry k h e i).block_id (changed_packed (collated_kind c) e i))
+      ∙ on (is_received e) (λ t. rw t (on (same_id e.id c.block_id) (λ u. rw u) (λ u. rw u))) (λ t. rw t)
 
-put_refreshed_packed : (n : ℕ) (g : GroupModel) (x : Option Entry) → is_some x ≡ true → length (changed_entries x g.entries) ≤ 16 →
-    put_refreshed n (option_map pack_master x) (pack_group g) ≡ pack_group (refresh n (with_change x g))
-put_refreshed_packed n g None p h = absurd_eq p
-put_refreshed_packed n g (Some e) p h = ap (refresh_group n) (put_change_packed g (Some e) h) ∙ refresh_packed (with_change (Some e) g) n
+  abbrev received_at : ReceivedBlock → BlockCacheEntryData → BlockId → B → B → StoreStep B
+  received_at r d i b fresh = cond (kind_received d) (refused_step AlreadyStored) (cond (same_id i r.block_id) (stored_step true false (Some b)) (stored_step false true (Some fresh)))
 
-put_master_refreshed_packed : (n : ℕ) (g : GroupModel) (x : Option Entry) → is_some x ≡ true → length (changed_entries x g.entries) ≤ 16 →
-    put_master_refreshed n (option_map pack_master x) (pack_master_group g) ≡ pack_master_group (refresh n (with_change x g))
-put_master_refreshed_packed n g None p h = absurd_eq p
-put_master_refreshed_packed n g (Some e) p h = ap (refresh_masters n) (put_master_change_packed g (Some e) h) ∙ refresh_masters_packed (with_change (Some e) g) n
+  received_step_packed : (z : ℕ) (r : ReceivedBlock) (room : Bool) (o : Option Entry) →
+      received_step k z r room (option_map (pack_block k) o) ≡ packed_step (first_no (received_place_questions o room)) (store_received_at z r o)
+  unfolding received_step
+  received_step_packed z r true None = refl
+  received_step_packed z r false None = refl
+  received_step_packed z r room (Some e) =
+      (λ i. received_at r (packed_kind k h e i) (packed_entry k h e i).block_id (changed_packed received_kind e i) (pack_block k (fresh_received z r)))
+      ∙ on (is_received e) (λ t. rw t) (λ t. rw t (on (same_id e.id r.block_id) (λ u. rw u) (λ u. rw u)))
 
--- ===== the collated store =====
+  -- ===== a change put into a packed group =====
 
-module _ (c : BlockCandidate) (g : GroupModel) (rises : rising entry_before g.entries ≡ true) (few : length g.entries ≤ 16) where
-  abbrev n : ℕ
-  n = c.block_id.seqno
+  room_packed : (g : GroupModel) → has_place (pack_group k g) ≡ model_room g
+  room_packed g = ap (λ (bs : List B). ltb (length bs) 16) (listed_packed k g) ∙ ap (λ (n : ℕ). ltb n 16) (length_each (pack_block k) g.entries)
 
-  abbrev standing : Option Entry
-  standing = at_seqno n g.entries
+  put_change_packed : (g : GroupModel) (x : Option Entry) → length (changed_entries x g.entries) ≤ 16 →
+      put_change k (option_map (pack_block k) x) (pack_group k g) ≡ pack_group k (with_change x g)
+  put_change_packed g None f = refl
+  put_change_packed g (Some e) f = put_block_packed k h e g ∙ ap (pack_group k) (put_model_fits e g f)
 
-  abbrev result : Stored
-  result = store_collated_at c standing
+  put_refreshed_packed : (n : ℕ) (g : GroupModel) (x : Option Entry) → is_some x ≡ true → length (changed_entries x g.entries) ≤ 16 →
+      put_refreshed k n (option_map (pack_block k) x) (pack_group k g) ≡ pack_group k (refresh n (with_change x g))
+  put_refreshed_packed n g None p f = absurd_eq p
+  put_refreshed_packed n g (Some e) p f = ap (refresh_group n) (put_change_packed g (Some e) f) ∙ refresh_packed k h (with_change (Some e) g) n
 
-  abbrev refusal_at : Option Refusal
-  refusal_at = first_no (collated_place_questions standing (model_room g))
+  -- ===== the collated store =====
 
-  fits : refusal_at ≡ None → length (changed_entries result.change g.entries) ≤ 16
-  fits q = change_fits n g rises few result.change (collated_stands c standing (found_stands n g.entries standing refl)) (room_asked is_received standing (model_room g) q)
+  module _ (c : BlockCandidate) (g : GroupModel) (rises : rising entry_before g.entries ≡ true) (few : length g.entries ≤ 16) where
+    abbrev standing : Option Entry
+    standing = at_seqno c.block_id.seqno g.entries
 
-  collated_stored : (q : Option Refusal) → refusal_at ≡ q → collated_in (packed_step q result) (pack_group g) ≡ pack_store (outcome q result (with_change result.change g) g)
-  collated_stored None e = ap (λ (h : Group). record { answer = Ok (stored_answer result.both result.mismatch); group = h }) (put_change_packed g result.change (fits e))
-  collated_stored (Some refusal) e = refl
+    abbrev result : Stored
+    result = store_collated_at c standing
 
-  collated_master_stored : (q : Option Refusal) → refusal_at ≡ q → collated_master_in (packed_step q result) (pack_master_group g) ≡ pack_master_store (outcome q result (with_change result.change g) g)
-  collated_master_stored None e = ap (λ (h : MasterGroup). record { answer = Ok (stored_answer result.both result.mismatch); masters = h }) (put_master_change_packed g result.change (fits e))
-  collated_master_stored (Some refusal) e = refl
+    abbrev refusal : Option Refusal
+    refusal = first_no (collated_place_questions standing (model_room g))
 
-  pub store_collated_packed : store_collated_block c (pack_group g) ≡ pack_store (collated_outcome c (at_seqno c.block_id.seqno g.entries) g)
-  unfolding store_collated_block
-  store_collated_packed =
-      ap₂ (λ (room : Bool) (o : Option BlockCacheEntry). collated_in (collated_step c room (option_map without_tops o)) (pack_group g)) (room_packed g) (entry_at_packed n g rises)
-      ∙ collated_in_packed c (model_room g) standing (pack_group g)
-      ∙ ap (λ (s : Step). collated_in s (pack_group g)) (collated_step_packed c (model_room g) standing)
-      ∙ collated_stored refusal_at refl
+    fits : refusal ≡ None → length (changed_entries result.change g.entries) ≤ 16
+    fits q =
+        change_fits c.block_id.seqno g rises few result.change (collated_stands c standing (found_stands c.block_id.seqno g.entries standing refl))
+        (room_asked is_received standing (model_room g) q)
 
-  pub store_collated_master_packed : store_collated_master c (pack_master_group g) ≡ pack_master_store (collated_outcome c (at_seqno c.block_id.seqno g.entries) g)
-  unfolding store_collated_master
-  store_collated_master_packed =
-      ap₂ (λ (room : Bool) (o : Option MasterBlock). collated_master_in (collated_step c room o) (pack_master_group g)) (room_packed g) (master_at_packed n g rises)
-      ∙ ap (λ (s : Step). collated_master_in s (pack_master_group g)) (collated_step_packed c (model_room g) standing)
-      ∙ collated_master_stored refusal_at refl
+    collated_stored : (q : Option Refusal) → refusal ≡ q → collated_in k (packed_step q result) (pack_group k g) ≡ pack_store k (outcome q result (with_change result.change g) g)
+    collated_stored None e = ap (λ (x : Group B). record { answer = Ok (stored_answer result.both result.mismatch); group = x }) (put_change_packed g result.change (fits e))
+    collated_stored (Some r) e = refl
 
--- ===== the received store =====
+    pub store_collated_packed : collated_store k c (pack_group k g) ≡ pack_store k (collated_outcome c (at_seqno c.block_id.seqno g.entries) g)
+    unfolding collated_store
+    store_collated_packed =
+        ap₂ (λ (room : Bool) (o : Option B). collated_in k (collated_step k c room o) (pack_group k g)) (room_packed g) (block_at_packed k h c.block_id.seqno g rises)
+        ∙ ap (λ (s : StoreStep B). collated_in k s (pack_group k g)) (collated_step_packed c (model_room g) standing)
+        ∙ collated_stored refusal refl
 
-module _ (zerostate : ℕ) (r : ReceivedBlock) (g : GroupModel) (rises : rising entry_before g.entries ≡ true) (few : length g.entries ≤ 16) where
-  abbrev m : ℕ
-  m = r.block_id.seqno
+  -- ===== the received store =====
 
-  abbrev standing_at : Option Entry
-  standing_at = at_seqno m g.entries
+  module _ (zerostate : ℕ) (r : ReceivedBlock) (g : GroupModel) (rises : rising entry_before g.entries ≡ true) (few : length g.entries ≤ 16) where
+    abbrev n : ℕ
+    n = r.block_id.seqno
 
-  abbrev made_of : Stored
-  made_of = store_received_at zerostate r standing_at
+    abbrev standing_at : Option Entry
+    standing_at = at_seqno n g.entries
 
-  abbrev refusal : Option Refusal
-  refusal = first_no (received_place_questions standing_at (model_room g))
+    abbrev made_of : Stored
+    made_of = store_received_at zerostate r standing_at
 
-  received_fits_in : refusal ≡ None → length (changed_entries made_of.change g.entries) ≤ 16
-  received_fits_in q =
-      change_fits m g rises few made_of.change (received_stands zerostate r standing_at (found_stands m g.entries standing_at refl))
-      (room_asked (λ (e : Entry). not (is_received e)) standing_at (model_room g) q)
+    abbrev refusal_at : Option Refusal
+    refusal_at = first_no (received_place_questions standing_at (model_room g))
 
-  received_stored : (q : Option Refusal) → refusal ≡ q →
-      received_in m (packed_step q made_of) (pack_group g) ≡ pack_store (outcome q made_of (refresh m (with_change made_of.change g)) g)
-  received_stored None e =
-      ap (λ (h : Group). record { answer = Ok (stored_answer made_of.both made_of.mismatch); group = h })
-      (put_refreshed_packed m g made_of.change (received_changes zerostate r standing_at) (received_fits_in e))
-  received_stored (Some k) e = refl
+    received_fits_in : refusal_at ≡ None → length (changed_entries made_of.change g.entries) ≤ 16
+    received_fits_in q =
+        change_fits n g rises few made_of.change (received_stands zerostate r standing_at (found_stands n g.entries standing_at refl))
+        (room_asked (λ (e : Entry). not (is_received e)) standing_at (model_room g) q)
 
-  received_master_stored : (q : Option Refusal) → refusal ≡ q →
-      received_master_in m (packed_step q made_of) (pack_master_group g) ≡ pack_master_store (outcome q made_of (refresh m (with_change made_of.change g)) g)
-  received_master_stored None e =
-      ap (λ (h : MasterGroup). record { answer = Ok (stored_answer made_of.both made_of.mismatch); masters = h })
-      (put_master_refreshed_packed m g made_of.change (received_changes zerostate r standing_at) (received_fits_in e))
-  received_master_stored (Some k) e = refl
+    received_stored : (q : Option Refusal) → refusal_at ≡ q →
+        received_in k n (packed_step q made_of) (pack_group k g) ≡ pack_store k (outcome q made_of (refresh n (with_change made_of.change g)) g)
+    received_stored None e =
+        ap (λ (x : Group B). record { answer = Ok (stored_answer made_of.both made_of.mismatch); group = x })
+        (put_refreshed_packed n g made_of.change (received_changes zerostate r standing_at) (received_fits_in e))
+    received_stored (Some x) e = refl
 
-  synced_packed : known_synced m (g.mark) ≡ is_some (given_mark m g.mark)
-  synced_packed = refl
-
-  pub store_received_packed : store_received_block zerostate r (pack_group g) ≡ pack_store (received_outcome zerostate r (at_seqno r.block_id.seqno g.entries) g)
-  unfolding store_received_block
-  store_received_packed =
-      rw synced_packed
-      (on (is_some (given_mark m g.mark))
-      (λ t. rw t)
-      (λ t. rw t
-      (ap₂ (λ (room : Bool) (o : Option BlockCacheEntry). received_in m (received_step zerostate r room (option_map without_tops o)) (pack_group g)) (room_packed g) (entry_at_packed m g rises)
-      ∙ received_in_packed zerostate r (model_room g) m standing_at (pack_group g)
-      ∙ ap (λ (s : Step). received_in m s (pack_group g)) (received_step_packed zerostate r (model_room g) standing_at)
-      ∙ received_stored refusal refl)))
-
-  pub store_received_master_packed : store_received_master zerostate r (pack_master_group g) ≡ pack_master_store (received_outcome zerostate r (at_seqno r.block_id.seqno g.entries) g)
-  unfolding store_received_master
-  store_received_master_packed =
-      rw synced_packed
-      (on (is_some (given_mark m g.mark))
-      (λ t. rw t)
-      (λ t. rw t
-      (ap₂ (λ (room : Bool) (o : Option MasterBlock). received_master_in m (received_step zerostate r room o) (pack_master_group g)) (room_packed g) (master_at_packed m g rises)
-      ∙ ap (λ (s : Step). received_master_in m s (pack_master_group g)) (received_step_packed zerostate r (model_room g) standing_at)
-      ∙ received_master_stored refusal refl)))
+    pub store_received_packed : received_store k zerostate r (pack_group k g) ≡ pack_store k (received_outcome zerostate r (at_seqno r.block_id.seqno g.entries) g)
+    unfolding received_store
+    store_received_packed =
+        on (is_some (given_mark n g.mark))
+        (λ t. rw t)
+        (λ t. rw t
+        (ap₂ (λ (room : Bool) (o : Option B). received_in k n (received_step k zerostate r room o) (pack_group k g)) (room_packed g) (block_at_packed k h n g rises)
+        ∙ ap (λ (s : StoreStep B). received_in k n s (pack_group k g)) (received_step_packed zerostate r (model_room g) standing_at)
+        ∙ received_stored refusal_at refl))

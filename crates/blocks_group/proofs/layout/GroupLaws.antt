@@ -1,58 +1,31 @@
 -- Packing a group and viewing it again gives the group; the tests of equality decide it.
 -- Assumes nothing.
 use Rattle.std.specs.Prelude.{map, eqb}
-use mathlib.Core.List.{List, [], ◌++◌, ◌∷◌}
+use mathlib.Core.List.{List, [], ◌∷◌}
 use mathlib.Core.Path.{◌∙◌, ◌≡◌, ap, ap₂, refl}
-use Prim.Native.Nat.{◌-◌, ℕ}
-use lib.ListN.{length, replicate, take}
-use Rattle.block_records.specs.declared.entry.BlockCacheEntry.{BlockCacheEntry}
-use Rattle.block_records.specs.layout.Listed.{TopBlocks}
+use Prim.Native.Nat.{ℕ}
+use lib.ListN.{length, take}
 use Rattle.blocks_group.specs.declared.group.Group.{Group}
-use Rattle.blocks_group.specs.declared.group.MasterGroup.{MasterGroup}
-use Rattle.block_records.proofs.arrays.ArrayLaws.{take_padded_at}
-use Rattle.block_records.proofs.layout.EntryLaws.{view_pack_entry, view_pack_shard_entry}
-use Rattle.block_records.proofs.layout.EqualityLaws.{both_same, entry_same, key_same, list_same, nat_same, option_same, pair_same, tops_same}
+use Rattle.block_records.proofs.arrays.ArrayLaws.{each_each, take_padded_at}
+use Rattle.block_records.proofs.layout.EqualityLaws.{both_same, key_same, list_same, nat_same, option_same, pair_same}
 use Rattle.block_records.proofs.rules.ListLaws.{length_each}
-use Rattle.block_records.specs.layout.Entry.{entry_tops, pack_entry, view_shard_entry}
-use Rattle.block_records.specs.layout.Zeros.{zero_entry, zero_tops}
+use Rattle.block_records.specs.layout.Listed.{listed}
+use Rattle.block_records.specs.rules.BlockId.{same_key}
 use Rattle.block_records.specs.rules.Entry.{Entry}
 use Rattle.block_records.specs.rules.Lists.{padded}
-use Rattle.block_records.specs.rules.BlockId.{same_key}
 use Rattle.block_records.specs.rules.Order.{IsSame}
+use Rattle.blocks_group.proofs.layout.BlockLaws.{Kept, block_same, kept_master, kept_shard}
 use Rattle.blocks_group.proofs.rules.GroupLaws.{NoTops}
-use Rattle.blocks_group.specs.layout.Group.{pack_group, pack_master_group, same_boundary, same_group, same_mark, same_master_group, view_group, view_master_group, view_masters}
+use Rattle.blocks_group.specs.layout.Block.{BlockLaws, BlockParts, master_parts, pack_block, shard_parts, view_block, zero_block}
+use Rattle.blocks_group.specs.layout.Group.{pack_group, same_boundary, same_group, same_mark, view_group}
 use Rattle.blocks_group.specs.rules.Group.{GroupModel}
 
 module _ {A B : Type 0} where
   pub take_padded_each : (n : ℕ) (z : B) (f : A → B) (xs : List A) → take (length xs) (padded n z (map f xs)) ≡ map f xs
   take_padded_each n z f xs = take_padded_at n z (map f xs) (length xs) (length_each f xs)
 
-pub view_pack_shards : (es : List Entry) → NoTops es → map view_shard_entry (map pack_entry es) ≡ es
-view_pack_shards [] h = refl
-view_pack_shards (e ∷ es) h = ap₂ ◌∷◌ (view_pack_shard_entry e h.0) (view_pack_shards es h.1)
-
-pub view_pack_group : (g : GroupModel) → NoTops g.entries → view_group (pack_group g) ≡ g
-view_pack_group g h =
-    let e : map view_shard_entry (take (length g.entries) (padded 16 zero_entry (map pack_entry g.entries))) ≡ g.entries =
-    ap (map view_shard_entry) (take_padded_each 16 zero_entry pack_entry g.entries) ∙ view_pack_shards g.entries h in
-    λ i. record { entries = e i; mark = g.mark; boundary = g.boundary }
-
-view_pack_masters : (es : List Entry) (rest : List TopBlocks) → view_masters (map pack_entry es) (map entry_tops es ++ rest) ≡ es
-view_pack_masters [] rest = refl
-view_pack_masters (e ∷ es) rest = ap₂ ◌∷◌ (view_pack_entry e) (view_pack_masters es rest)
-
-masters_back : (n : ℕ) (z : TopBlocks) (es : List Entry) → view_masters (map pack_entry es) (padded n z (map entry_tops es)) ≡ es
-unfolding padded
-masters_back n z es = view_pack_masters es (replicate (n - length (map entry_tops es)) z)
-
-pub view_pack_master_group : (g : GroupModel) → view_master_group (pack_master_group g) ≡ g
-view_pack_master_group g =
-    let e : view_masters (take (length g.entries) (padded 16 zero_entry (map pack_entry g.entries))) (padded 16 zero_tops (map entry_tops g.entries)) ≡ g.entries =
-    ap (λ (bs : List BlockCacheEntry). view_masters bs (padded 16 zero_tops (map entry_tops g.entries))) (take_padded_each 16 zero_entry pack_entry g.entries)
-    ∙ masters_back 16 zero_tops g.entries in
-    λ i. record { entries = e i; mark = g.mark; boundary = g.boundary }
-
--- ===== equality =====
+  pub listed_packed_each : (n : ℕ) (z : B) (f : A → B) (xs : List A) → take (length (map f xs)) (padded n z (map f xs)) ≡ map f xs
+  listed_packed_each n z f xs = take_padded_at n z (map f xs) (length (map f xs)) refl
 
 pub mark_same : IsSame same_mark
 mark_same = option_same eqb nat_same
@@ -60,14 +33,37 @@ mark_same = option_same eqb nat_same
 pub boundary_same : IsSame same_boundary
 boundary_same = option_same same_key key_same
 
-pub group_same : IsSame same_group
-unfolding same_group
-group_same =
-    both_same (λ (g : Group). g.count) (λ (g : Group). (g.mark, (g.boundary, g.entries)))
-    (λ a b p q. λ i. record { entries = (q i).1.1; count = p i; mark = (q i).0; boundary = (q i).1.0 })
-    nat_same (pair_same mark_same (pair_same boundary_same (list_same entry_same)))
+-- every entry of a list is kept
+abbrev pub AllKept : {B : Type 0} → BlockParts B → List Entry → Type 0
+AllKept k [] = Unit {0}
+AllKept k (e ∷ es) = Kept k e × AllKept k es
 
-pub master_group_same : IsSame same_master_group
-unfolding same_master_group
-master_group_same =
-    both_same (λ (g : MasterGroup). g.group) (λ (g : MasterGroup). g.tops) (λ a b p q. λ i. record { group = p i; tops = q i }) group_same (list_same tops_same)
+pub all_kept_masters : (es : List Entry) → AllKept master_parts es
+all_kept_masters [] = tt
+all_kept_masters (e ∷ es) = (kept_master e, all_kept_masters es)
+
+pub all_kept_shards : (es : List Entry) → NoTops es → AllKept shard_parts es
+all_kept_shards [] h = tt
+all_kept_shards (e ∷ es) h = (kept_shard e h.0, all_kept_shards es h.1)
+
+module _ {B : Type 0} (k : BlockParts B) where
+  -- what is listed in a packed group
+  pub listed_packed : (m : GroupModel) → listed (pack_group k m).entries ≡ map (pack_block k) m.entries
+  listed_packed m = listed_packed_each 16 (zero_block k) (pack_block k) m.entries
+
+  viewed : (es : List Entry) → AllKept k es → map (λ (e : Entry). view_block k (pack_block k e)) es ≡ es
+  viewed [] h = refl
+  viewed (e ∷ es) h = ap₂ ◌∷◌ h.0 (viewed es h.1)
+
+  pub view_pack_group : (g : GroupModel) → AllKept k g.entries → view_group k (pack_group k g) ≡ g
+  view_pack_group g h =
+      let e : map (view_block k) (listed (pack_group k g).entries) ≡ g.entries =
+      ap (map (view_block k)) (listed_packed g) ∙ each_each (view_block k) (pack_block k) g.entries ∙ viewed g.entries h in
+      λ i. record { entries = e i; mark = g.mark; boundary = g.boundary }
+
+  pub group_same : BlockLaws k → IsSame (same_group k)
+  unfolding same_group
+  group_same h =
+      both_same (λ (g : Group B). g.mark) (λ (g : Group B). (g.boundary, (g.entries.count, g.entries.items)))
+      (λ a b p q. λ i. record { mark = p i; boundary = (q i).0; entries = record { count = (q i).1.0; items = (q i).1.1 } })
+      mark_same (pair_same boundary_same (pair_same nat_same (list_same (block_same k h))))

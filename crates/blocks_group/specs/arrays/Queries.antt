@@ -2,41 +2,15 @@
 -- On a packed group each is what the rules say of the model (proofs/arrays/QueryLaws).
 -- Assumes nothing.
 use Rattle.block_records.specs.declared.block_id.BlockIdShort.{BlockIdShort}
-use Rattle.std.specs.List.{find, fold}
-use Rattle.std.specs.Prelude.{Bool, ◌&&◌, false, not, List, ℕ, leb, ltb, Option, None, Some, map, cond, is_some, filter, Result}
-use Rattle.block_records.specs.declared.entry.BlockCacheEntry.{BlockCacheEntry}
+use Rattle.std.specs.List.{find, fold, list_any}
+use Rattle.std.specs.Prelude.{Bool, ◌&&◌, ◌||◌, false, not, List, ℕ, leb, ltb, Option, None, Some, map, cond, filter}
 use Rattle.blocks_group.specs.declared.group.Group.{Group}
-use Rattle.blocks_group.specs.declared.group.MasterAt.{MasterAt}
-use Rattle.blocks_group.specs.declared.group.MasterGroup.{MasterGroup}
-use Rattle.blocks_group.specs.declared.group.Retained.TheVariants.{From as retain_from, UpToOrReceived as retain_up_to}
-use Rattle.block_records.specs.arrays.Place.{first_place}
-use Rattle.block_records.specs.layout.Zeros.{zero_master}
+use Rattle.block_records.specs.layout.Listed.{listed}
 use Rattle.block_records.specs.rules.Entry.{kind_applied, kind_received}
-use Rattle.blocks_group.specs.arrays.Group.{at_place, held_seqno, listed_entries, listed_masters, retain_entries, retain_masters}
+use Rattle.blocks_group.specs.arrays.Group.{retain_blocks}
+use Rattle.blocks_group.specs.layout.Block.{BlockParts, block_kind, block_seqno}
 
--- ===== applied entries =====
-
--- applied, at or above a seqno
-abbrev pub held_applied_from : ℕ → BlockCacheEntry → Bool
-held_applied_from n b = leb n (held_seqno b) && kind_applied b.«data»
-
--- applied, above a seqno
-abbrev pub held_applied_above : ℕ → BlockCacheEntry → Bool
-held_applied_above n b = ltb n (held_seqno b) && kind_applied b.«data»
-
--- pop and peek: the place of the first entry of that sort, from f on
-abbrev pub first_applied_place : ℕ → Group → Result ℕ ℕ
-first_applied_place f g = first_place (held_applied_from f) 0 (listed_entries g)
-
--- the master block in that place; zeros where there is none
-abbrev pub first_applied_master : ℕ → MasterGroup → MasterAt
-first_applied_master f g = record { found = first_applied_place f g.group; block = at_place zero_master (listed_masters g) (first_applied_place f g.group) }
-
--- pop: some listed entry is applied, above a seqno
-abbrev pub any_applied_above : ℕ → Group → Bool
-any_applied_above n g = is_some (find (held_applied_above n) (listed_entries g))
-
--- ===== the highest and the lowest seqno of some entries =====
+-- ===== the highest and the lowest of some seqnos =====
 
 -- the higher of two
 abbrev pub higher_of : ℕ → ℕ → ℕ
@@ -51,65 +25,71 @@ abbrev pub chosen : (ℕ → ℕ → ℕ) → Option ℕ → ℕ → Option ℕ
 chosen choice None n = Some n
 chosen choice (Some k) n = Some (choice k n)
 
--- the highest of some numbers; absent where there is no number
+-- what the choice leaves of some numbers; absent where there is no number
+abbrev pub chosen_of : (ℕ → ℕ → ℕ) → List ℕ → Option ℕ
+chosen_of choice ns = fold (chosen choice) None ns
+
+-- the highest of some numbers
 abbrev pub highest_seqno : List ℕ → Option ℕ
-highest_seqno ns = fold (chosen higher_of) None ns
+highest_seqno ns = chosen_of higher_of ns
 
--- the lowest of some numbers; absent where there is no number
+-- the lowest of some numbers
 abbrev pub lowest_seqno : List ℕ → Option ℕ
-lowest_seqno ns = fold (chosen lower_of) None ns
+lowest_seqno ns = chosen_of lower_of ns
 
--- the seqnos of the listed entries that pass
-abbrev pub seqnos_of : (BlockCacheEntry → Bool) → Group → List ℕ
-seqnos_of p g = map held_seqno (filter p (listed_entries g))
+module _ {B : Type 0} (k : BlockParts B) where
+  -- the seqnos of the listed blocks that pass
+  abbrev pub seqnos_of : (B → Bool) → Group B → List ℕ
+  seqnos_of p g = map (block_seqno k) (filter p (listed g.entries))
 
--- ===== collect =====
+  -- ===== applied blocks =====
 
--- an entry below a seqno
-abbrev pub held_below : ℕ → BlockCacheEntry → Bool
-held_below n b = ltb (held_seqno b) n
+  -- applied, at or above a seqno
+  abbrev pub held_applied_from : ℕ → B → Bool
+  held_applied_from n b = leb n (block_seqno k b) && kind_applied (block_kind k b)
 
--- an entry below the boundary; none is without one
-abbrev pub held_below_boundary : Option BlockIdShort → BlockCacheEntry → Bool
-held_below_boundary None b = false
-held_below_boundary (Some k) b = held_below k.seqno b
+  -- applied, above a seqno
+  abbrev pub held_applied_above : ℕ → B → Bool
+  held_applied_above n b = ltb n (block_seqno k b) && kind_applied (block_kind k b)
 
--- the highest seqno that a collection takes out
-abbrev pub highest_below_boundary : Group → Option ℕ
-highest_below_boundary g = (highest_seqno (seqnos_of (held_below_boundary g.boundary) g))
+  -- pop and peek: the first block of that sort, from f on
+  abbrev pub first_applied_block : ℕ → Group B → Option B
+  first_applied_block f g = find (held_applied_from f) (listed g.entries)
 
--- the listed entries that are not below the boundary; unchanged without one
-abbrev pub collected_by : Option BlockIdShort → Group → Group
-collected_by None g = g
-collected_by (Some k) g = retain_entries (retain_from k.seqno) g
+  -- pop: some listed block is applied, above a seqno
+  abbrev pub any_applied_above : ℕ → Group B → Bool
+  any_applied_above n g = list_any (held_applied_above n) (listed g.entries)
 
--- a group collected by its own boundary
-abbrev pub collect_group : Group → Group
-collect_group g = collected_by g.boundary g
+  -- ===== collect =====
 
--- the same of the master group, by a boundary
-abbrev pub masters_collected_by : Option BlockIdShort → MasterGroup → MasterGroup
-masters_collected_by None g = g
-masters_collected_by (Some k) g = retain_masters (retain_from k.seqno) g
+  -- a block below the boundary; none is without one
+  abbrev pub below_group_boundary : Option BlockIdShort → B → Bool
+  below_group_boundary None b = false
+  below_group_boundary (Some key) b = ltb (block_seqno k b) key.seqno
 
--- the master group collected by its own boundary
-abbrev pub collect_masters : MasterGroup → MasterGroup
-collect_masters g = masters_collected_by g.group.boundary g
+  -- the highest seqno that a collection takes out
+  abbrev pub highest_below_boundary : Group B → Option ℕ
+  highest_below_boundary g = highest_seqno (seqnos_of (below_group_boundary g.boundary) g)
 
--- ===== remove next collated =====
+  -- the listed blocks that are not below the boundary; unchanged without one
+  abbrev pub collected_by : Option BlockIdShort → Group B → Group B
+  collected_by None g = g
+  collected_by (Some key) g = retain_blocks k (λ (b : B). leb key.seqno (block_seqno k b)) g
 
--- an entry above a seqno that is not Received
-abbrev pub held_collated_above : ℕ → BlockCacheEntry → Bool
-held_collated_above n b = ltb n (held_seqno b) && not (kind_received b.«data»)
+  -- a group collected by its own boundary
+  abbrev pub collect_group : Group B → Group B
+  collect_group g = collected_by g.boundary g
 
--- the lowest seqno that a removal takes out
-abbrev pub lowest_collated_above : ℕ → Group → Option ℕ
-lowest_collated_above n g = (lowest_seqno (seqnos_of (held_collated_above n) g))
+  -- ===== remove next collated =====
 
--- the listed entries without those above a seqno that are not Received
-abbrev pub remove_collated_above : ℕ → Group → Group
-remove_collated_above n g = retain_entries (retain_up_to n) g
+  -- a block above a seqno that is not Received
+  abbrev pub block_collated_above : ℕ → B → Bool
+  block_collated_above n b = ltb n (block_seqno k b) && not (kind_received (block_kind k b))
 
--- the same of the master group
-abbrev pub remove_collated_masters_above : ℕ → MasterGroup → MasterGroup
-remove_collated_masters_above n g = retain_masters (retain_up_to n) g
+  -- the lowest seqno that a removal takes out
+  abbrev pub lowest_collated_above : ℕ → Group B → Option ℕ
+  lowest_collated_above n g = lowest_seqno (seqnos_of (block_collated_above n) g)
+
+  -- the listed blocks that are not above a seqno, or Received
+  abbrev pub remove_collated_above : ℕ → Group B → Group B
+  remove_collated_above n g = retain_blocks k (λ (b : B). leb (block_seqno k b) n || kind_received (block_kind k b)) g

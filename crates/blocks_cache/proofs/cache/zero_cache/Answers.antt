@@ -3,4 +3,4 @@ use Rattle.blocks_cache.proofs.cache.zero_cache.Goals as goal
 
 pub returns : goal.returns
 unfolding zero_cache
-returns c = cc
+returns c = rw (c.empty.ensures, c.empty-2.ensures, c.zero_id.ensures, c.zero_shard_group.ensures)

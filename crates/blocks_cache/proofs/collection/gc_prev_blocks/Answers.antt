@@ -13,4 +13,4 @@ returns-then-not-sound_cache c = sym (unsound_answers_1 _ _ (sym c.sound_cache.e
 pub returns : goal.returns
 returns c =
     change_is _ [] asks_nothing held_collect do_collect collects (λ m ok. collect_packed m) c.args.cache (Ok tt)
-    (rw (sym c.sound_cache.ensures ∙ c.if-not-sound_cache.false)) refl _ c.held_collect-collected.ensures
+    (rw (sym c.sound_cache.ensures ∙ c.if-not-sound_cache.false)) refl _ c.held_collect.ensures

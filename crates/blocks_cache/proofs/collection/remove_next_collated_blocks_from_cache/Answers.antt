@@ -12,9 +12,9 @@ use Rattle.blocks_cache.proofs.collection.remove_next_collated_blocks_from_cache
 pub returns-in-Err : goal.returns-in-Err
 returns-in-Err c =
     let ks = c.args.after_blocks_keys in
-    change_refuses _ (keys_questions ks) (asks_removal ks) (λ (x : Cache). fold held_remove_one x (listed_keys ks)) (λ (m : Model). fold remove_one m (listed_keys ks)) (removes ks) (remove_packed (listed_keys ks)) c.args.cache _ c.keys_answer-answer.ensures _ c.in-Err.is
+    change_refuses _ (keys_questions ks) (asks_removal ks) (λ (x : Cache). fold held_remove_one x (listed_keys ks)) (λ (m : Model). fold remove_one m (listed_keys ks)) (removes ks) (remove_packed (listed_keys ks)) c.args.cache _ c.keys_answer.ensures _ c.in-Err.is
 
 pub returns : goal.returns
 returns c =
     let ks = c.args.after_blocks_keys in
-    change_is _ (keys_questions ks) (asks_removal ks) (λ (x : Cache). fold held_remove_one x (listed_keys ks)) (λ (m : Model). fold remove_one m (listed_keys ks)) (removes ks) (remove_packed (listed_keys ks)) c.args.cache _ c.keys_answer-answer.ensures c.in_default.is _ c.remove_all-left.ensures
+    change_is _ (keys_questions ks) (asks_removal ks) (λ (x : Cache). fold held_remove_one x (listed_keys ks)) (λ (m : Model). fold remove_one m (listed_keys ks)) (removes ks) (remove_packed (listed_keys ks)) c.args.cache _ c.keys_answer.ensures c.in_default.is _ c.remove_all.ensures

@@ -12,9 +12,9 @@ use Rattle.blocks_cache.proofs.collection.set_gc_to_boundary.Goals as goal
 pub returns-in-Err : goal.returns-in-Err
 returns-in-Err c =
     let ks = c.args.to_blocks_keys in
-    change_refuses _ (keys_questions ks) (asks_boundary ks) (λ (x : Cache). fold held_bound_one x (listed_keys ks)) (λ (m : Model). fold bound_one m (listed_keys ks)) (sets_boundary ks) (bound_packed (listed_keys ks)) c.args.cache _ c.keys_answer-answer.ensures _ c.in-Err.is
+    change_refuses _ (keys_questions ks) (asks_boundary ks) (λ (x : Cache). fold held_bound_one x (listed_keys ks)) (λ (m : Model). fold bound_one m (listed_keys ks)) (sets_boundary ks) (bound_packed (listed_keys ks)) c.args.cache _ c.keys_answer.ensures _ c.in-Err.is
 
 pub returns : goal.returns
 returns c =
     let ks = c.args.to_blocks_keys in
-    change_is _ (keys_questions ks) (asks_boundary ks) (λ (x : Cache). fold held_bound_one x (listed_keys ks)) (λ (m : Model). fold bound_one m (listed_keys ks)) (sets_boundary ks) (bound_packed (listed_keys ks)) c.args.cache _ c.keys_answer-answer.ensures c.in_default.is _ c.bound_all-bound.ensures
+    change_is _ (keys_questions ks) (asks_boundary ks) (λ (x : Cache). fold held_bound_one x (listed_keys ks)) (λ (m : Model). fold bound_one m (listed_keys ks)) (sets_boundary ks) (bound_packed (listed_keys ks)) c.args.cache _ c.keys_answer.ensures c.in_default.is _ c.bound_all.ensures

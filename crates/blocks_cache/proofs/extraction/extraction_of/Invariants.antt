@@ -4,7 +4,7 @@ use Rattle.blocks_cache.proofs.arrays.ExtractionRun.{Run}
 use Rattle.blocks_cache.proofs.extraction.extraction_of.Given as goal
 
 abbrev pub invariant-loop-head : goal.invariant-loop-head
-invariant-loop-head l = Run l.cache l.master l.idents l.seqnos l.ids l.count l.blocks l.joined l.head
+invariant-loop-head l = Run l.cache l.master l.idents l.seqnos l.waiting.items l.waiting.count l.joined.items l.joined.count l.head
 
 abbrev pub decreases-loop-head : goal.decreases-loop-head
 decreases-loop-head l = 264 - l.head

@@ -7,6 +7,6 @@ use Rattle.blocks_cache.proofs.extraction.no_extract.Goals as goal
 
 pub returns : goal.returns
 returns c =
-    let e = ap (λ (z : BlockCacheEntry). replicate 128 z) c.zero_entry-zero.ensures ∙ sym (padded_nil 128 zero_entry) in
-    let m = c.zero_master-master.ensures in
+    let e = ap (λ (z : BlockCacheEntry). replicate 128 z) c.zero_entry.ensures ∙ sym (padded_nil 128 zero_entry) in
+    let m = c.zero_master.ensures in
     λ i. record { extract = record { answer = c.args.answer; master = m i; joined = 0; taken = 0; cache = c.args.cache }; blocks = e i }

@@ -1,11 +1,14 @@
--- What the lookup finds decides.
-use Rattle.blocks_cache.proofs.arrays.SubgraphsLaws.{sync_none, sync_some}
+-- A refusal by the questions, or the effect.
+use Rattle.std.proofs.Common.{sym, ◌∙◌}
+use Rattle.blocks_cache.proofs.arrays.SubgraphsLaws.{asked_sound, sync_refused, syncs}
 use Rattle.blocks_cache.proofs.extraction.sync_with_blocks.Goals as goal
 
-pub returns-in_default : goal.returns-in_default
-returns-in_default c =
-    sync_none c.args.cache c.requires c.args.seqno c.master_at-there.result c.master_at-there.ensures _ c.no_extract.result c.in_default.is c.no_extract.ensures
+pub returns-in-Some : goal.returns-in-Some
+returns-in-Some c =
+    sync_refused c.args.cache c.args.places c.args.block_id _ (sym c.extract_refusal.ensures ∙ c.in-Some.is) c.no_extract.result c.no_extract.ensures
 
-pub returns : goal.returns
-returns c =
-    sync_some c.args.cache c.requires c.args.seqno c.master_at-there.result c.master_at-there.ensures _ _ _ _ _ c.hand_out.result c.in-Ok.is c.extraction_of-extraction.ensures c.remove_master-removed.ensures c.refresh_masters-left.ensures c.move_applied_start-range.ensures c.hand_out.ensures
+pub synced-requires : goal.synced-requires
+synced-requires c = asked_sound c.args.cache c.args.places c.args.block_id.seqno (sym c.extract_refusal.ensures ∙ c.in-None.is)
+
+pub returns-in-None : goal.returns-in-None
+returns-in-None c = syncs c.args.cache c.args.places c.args.block_id (sym c.extract_refusal.ensures ∙ c.in-None.is) c.synced.result c.synced.ensures

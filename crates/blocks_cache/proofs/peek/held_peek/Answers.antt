@@ -1,9 +1,12 @@
 -- The master that is found, and its tops.
-use Rattle.blocks_cache.proofs.arrays.PeekLaws.{peek_at, peek_vacant}
+use Rattle.std.proofs.Common.{ap, sym, ◌∙◌}
+use Rattle.blocks_cache.specs.arrays.Peek.{held_peek, peek_block}
 use Rattle.blocks_cache.proofs.peek.held_peek.Goals as goal
 
 pub returns-in_default : goal.returns-in_default
-returns-in_default c = peek_vacant c.args.from c.args.cache _ c.first_applied_master-at.ensures _ c.in_default.is _ c.zero_peek.ensures
+unfolding held_peek
+returns-in_default c = c.zero_peek.ensures ∙ ap (peek_block c.args.cache) (sym c.in_default.is ∙ c.first_applied.ensures)
 
 pub returns : goal.returns
-returns c = peek_at c.args.from c.args.cache _ c.first_applied_master-at.ensures _ c.in-Ok.is _ c.held_view_tops-view.ensures
+unfolding held_peek
+returns c = rw c.held_view_tops-view.ensures (ap (peek_block c.args.cache) (sym c.in-Some.is ∙ c.first_applied.ensures))

@@ -1,10 +1,13 @@
 -- The parts, each by its function, are question 1.
-use Rattle.blocks_cache.proofs.layout.SoundnessLaws.{sound_cache_parts}
-use Rattle.block_records.proofs.arrays.LoopLaws.{length_mapped}
 use Rattle.std.proofs.Common.{◌≡◌, length, sym, rules}
+use Rattle.block_records.specs.rules.BlockId.{is_masterchain}
+use Rattle.blocks_cache.proofs.layout.SoundnessLaws.{sound_cache_parts}
 use Rattle.blocks_cache.proofs.soundness.sound_cache.Goals as goal
 
 pub returns : goal.returns
 returns c =
-    rw (c.sound_shards-s.ensures, c.sound_ids-i.ensures, c.sound_range-r.ensures, c.sound_master_group-m.ensures)
-    (sym (sound_cache_parts c.args.cache (let long_ids : length c.args.cache.«data».ids.items ≡ 32 = search (rules, length_mapped) in long_ids) (let long_shards : length c.args.cache.shards ≡ 8 = search (rules, length_mapped) in long_shards)))
+    let x = c.args.cache in
+    let ids : length x.«data».ids.items ≡ 32 = search rules in
+    let shards : length x.shards.items ≡ 8 = search rules in
+    rw (c.is_sound-masters.ensures is_masterchain (search rules), c.sound_range-range.ensures, c.sound_ids-ids.ensures, c.sound_shards-shards.ensures)
+    (sym (sound_cache_parts x ids shards))

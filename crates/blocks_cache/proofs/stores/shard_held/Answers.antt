@@ -1,25 +1,16 @@
--- The group at the place that is found, an empty one where there is none.
-use Rattle.std.proofs.Common.{◌≡◌, ◌<◌, length, sym, ◌∙◌, arith, rules}
-use Rattle.block_records.proofs.arrays.LoopLaws.{length_mapped}
-use Rattle.blocks_group.specs.layout.Group.{zero_group}
-use Rattle.blocks_cache.proofs.arrays.StoresLaws.{held_nowhere, held_there}
-use Rattle.blocks_cache.proofs.arrays.ShardsLaws.{shard_listed}
+-- The group that is listed, an empty one where there is none and there is room.
+use mathlib.Core.Path.{sym, ◌∙◌}
+use Rattle.blocks_cache.specs.arrays.Stores.{shard_held}
 use Rattle.blocks_cache.proofs.stores.shard_held.Goals as goal
 
-pub offset_bounds-groups-at : goal.offset_bounds-groups-at
-offset_bounds-groups-at c = omega (
-  arith,
-  (let small : c.in-Ok.at < 8 = shard_listed c.args.groups (let long : length c.args.groups ≡ 8 = search (rules, length_mapped) in long) c.args.count (record { shard = c.args.shard; group = zero_group }) _
-      (sym c.shard_place-place.ensures ∙ c.in-Ok.is) in small),
-)
+pub returns-in-Some : goal.returns-in-Some
+unfolding shard_held
+returns-in-Some c = rw (sym c.listed_shard.ensures, c.in-Some.is)
 
-pub bounds-groups-at : goal.bounds-groups-at
-bounds-groups-at c = (let small : c.in-Ok.at < 8 = shard_listed c.args.groups (let long : length c.args.groups ≡ 8 = search (rules, length_mapped) in long) c.args.count (record { shard = c.args.shard; group = zero_group }) _
-    (sym c.shard_place-place.ensures ∙ c.in-Ok.is) in small)
+pub returns-in-None : goal.returns-in-None
+unfolding shard_held
+returns-in-None c = rw (sym c.listed_shard.ensures, c.in-None.is, sym c.has_place.ensures ∙ c.if-has_place.true, c.empty.ensures)
 
-pub returns-in-Ok : goal.returns-in-Ok
-returns-in-Ok c = held_there c.args.groups (let long : length c.args.groups ≡ 8 = search (rules, length_mapped) in long) c.args.count c.args.shard _ _ (sym c.shard_place-place.ensures ∙ c.in-Ok.is)
-
-pub returns-in-Err : goal.returns-in-Err
-returns-in-Err c =
-    held_nowhere c.args.groups (let long : length c.args.groups ≡ 8 = search (rules, length_mapped) in long) c.args.count c.args.shard _ _ c.zero_group-group.ensures (sym c.shard_place-place.ensures ∙ c.in-Err.is)
+pub returns-in-None-2 : goal.returns-in-None-2
+unfolding shard_held
+returns-in-None-2 c = rw (sym c.listed_shard.ensures, c.in-None-2.is, sym c.has_place.ensures ∙ c.if-has_place.false)

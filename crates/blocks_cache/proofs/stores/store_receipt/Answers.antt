@@ -1,24 +1,29 @@
 -- Questions 5 and 6, then by the side of the block.
-use Rattle.std.proofs.Common.{sym, ap, ◌∙◌}
-use Rattle.block_records.specs.rules.BlockId.{is_masterchain}
-use Rattle.blocks_cache.proofs.arrays.ReceivedStoreLaws.{receipt_before, receipt_master, receipt_other, receipt_shard}
+use mathlib.Core.Path.{◌≡◌, sym, ◌∙◌}
+use borrow.Author.Tests.{le-leb, lt-leb}
+use Rattle.std.specs.Prelude.{false, true}
+use Rattle.block_records.proofs.rules.Tests.{not_false, not_true}
+use Rattle.block_records.specs.rules.BlockId.{same_id}
+use Rattle.blocks_cache.specs.arrays.Stores.{store_receipt}
 use Rattle.blocks_cache.proofs.stores.store_receipt.Goals as goal
 
 pub returns-then-received-cache : goal.returns-then-received-cache
-returns-then-received-cache c = c.nothing_stored.ensures ∙ receipt_before c.args.received c.args.cache c.if-received-cache.true
+unfolding store_receipt
+returns-then-received-cache c = rw (c.nothing_stored.ensures, lt-leb _ _ c.if-received-cache.true)
 
-pub returns-then-not-same_id : goal.returns-then-not-same_id
-returns-then-not-same_id c =
-    c.nothing_stored-then-not-same_id.ensures
-    ∙ receipt_other c.args.received c.args.cache c.if-received-cache.false (ap is_masterchain (sym c.id_shard-shard.ensures) ∙ sym c.is_masterchain.ensures ∙ c.if-is_masterchain.true)
-    (sym c.same_id.ensures ∙ c.if-not-same_id.true)
+pub returns-then-not-is_masterchain : goal.returns-then-not-is_masterchain
+unfolding store_receipt
+returns-then-not-is_masterchain c =
+    rw (c.store_shard_receipt.ensures, le-leb _ _ c.if-received-cache.false, sym c.is_masterchain.ensures ∙ c.if-not-is_masterchain.true)
 
-pub returns-then-is_masterchain : goal.returns-then-is_masterchain
-returns-then-is_masterchain c =
-    c.store_master_receipt.ensures
-    ∙ receipt_master c.args.received c.args.cache c.if-received-cache.false (ap is_masterchain (sym c.id_shard-shard.ensures) ∙ sym c.is_masterchain.ensures ∙ c.if-is_masterchain.true)
-    (sym c.same_id.ensures ∙ c.if-not-same_id.false)
+pub returns-then-ne : goal.returns-then-ne
+unfolding store_receipt
+returns-then-ne c =
+    let other : same_id c.args.received.block_id c.args.received.ref_block_id ≡ false = not_true _ (sym c.ne.ensures ∙ c.if-ne.true) in
+    rw (c.nothing_stored-then-ne.ensures, le-leb _ _ c.if-received-cache.false, sym c.is_masterchain.ensures ∙ c.if-not-is_masterchain.false, other)
 
 pub returns : goal.returns
+unfolding store_receipt
 returns c =
-    c.store_shard_receipt.ensures ∙ receipt_shard c.args.received c.args.cache c.if-received-cache.false (ap is_masterchain (sym c.id_shard-shard.ensures) ∙ sym c.is_masterchain.ensures ∙ c.if-is_masterchain.false)
+    let own : same_id c.args.received.block_id c.args.received.ref_block_id ≡ true = not_false _ (sym c.ne.ensures ∙ c.if-ne.false) in
+    rw (c.store_master_receipt.ensures, le-leb _ _ c.if-received-cache.false, sym c.is_masterchain.ensures ∙ c.if-not-is_masterchain.false, own)

@@ -1,16 +1,13 @@
-use Rattle.std.proofs.Common.{◌||◌, eqb, get_or, refl, ap, ◌∙◌, take_all, rules}
-use Rattle.blocks_cache.specs.arrays.TailIds.{has_number}
-use Rattle.block_records.proofs.arrays.ScanLaws.{any_more}
+use Rattle.std.proofs.Common.{eqb, refl, ◌∙◌, ℕ}
+use Rattle.blocks_cache.proofs.arrays.TailRowLaws.{any_left, any_over}
 use Rattle.blocks_cache.proofs.tail_ids.has_number.Goals as goal
 
-pub loop-i-init : goal.loop-i-init
-loop-i-init c = (search rules, refl)
+pub loop-known-init : goal.loop-known-init
+loop-known-init c = refl
 
-pub loop-i-preserved : goal.loop-i-preserved
-loop-i-preserved c =
-    (search rules, ap (λ b. b || eqb (get_or c.args.numbers.now c.loop-i.i 0) c.args.number) c.loop-i.invariant.1 ∙ any_more (λ x. eqb x c.args.number) c.args.numbers.now c.loop-i.i 0 (search rules))
+pub loop-known-preserved : goal.loop-known-preserved
+loop-known-preserved c =
+    any_left (λ (x : ℕ). eqb x c.args.number) c.args.numbers.now c.loop-known.known-index _ c.loop-known-test.true c.loop-known.has ∙ c.loop-known.invariant
 
 pub returns : goal.returns
-returns c =
-    let ns = c.args.numbers.now in
-    c.loop-i.invariant.1 ∙ ap (λ xs. has_number xs c.args.number) (take_all c.loop-i.i ns c.loop-i-test.false)
+returns c = any_over (λ (x : ℕ). eqb x c.args.number) c.args.numbers.now c.loop-known.known-index c.loop-known-test.false c.loop-known.has ∙ c.loop-known.invariant

@@ -3,4 +3,4 @@ use Rattle.blocks_cache.proofs.tail_ids.missing_row.Goals as goal
 
 pub returns : goal.returns
 unfolding padded
-returns c = rw (c.zero_id-zero.ensures, c.id_shard-shard.ensures)
+returns c = rw c.zero_id.ensures

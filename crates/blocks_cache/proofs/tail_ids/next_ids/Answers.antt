@@ -6,4 +6,5 @@ use Rattle.blocks_cache.proofs.tail_ids.next_ids.Goals as goal
 
 pub returns : goal.returns
 returns c =
-    all_new c.args.ids (let long : length c.args.ids ≡ 258 = search (rules, length_mapped) in long) c.args.count _ c.requires c.args.prev (let two : length c.args.prev.items ≡ 2 = search (rules, length_mapped) in two) _ _ _ _ c.fingerprint-first.ensures c.fingerprint-second.ensures _ _ c.has_number-a.ensures c.has_number-b.ensures c.if-a-b.false _ c.stored_prev_ids.ensures
+    let two : length c.args.prev.items ≡ 2 = search (rules, length_mapped) in
+    all_new c.args.known.now c.args.fingerprints.now c.requires c.args.prev two _ _ _ _ c.fingerprint-first.ensures c.fingerprint-second.ensures _ _ c.has_number-a.ensures c.has_number-b.ensures c.if-a-b.false _ c.stored_prev_ids.ensures

@@ -10,9 +10,6 @@ pub returns-then-not-key_fits : goal.returns-then-not-key_fits
 returns-then-not-key_fits c =
     tails_refuses c.args.cache c.args.short _ (sym c.sound_cache.ensures ∙ c.if-not-sound_cache.false) (sym c.key_fits.ensures ∙ c.if-not-key_fits.true) c.no_tails-then-not-key_fits.ensures
 
-pub read_tails-requires : goal.read_tails-requires
-read_tails-requires c = sym c.sound_cache.ensures ∙ c.if-not-sound_cache.false
-
 pub returns : goal.returns
 returns c =
     tails_are c.args.cache c.args.short _ (sym c.sound_cache.ensures ∙ c.if-not-sound_cache.false) (sym c.key_fits.ensures ∙ c.if-not-key_fits.false) c.read_tails.ensures

@@ -1,40 +1,13 @@
-use Rattle.std.proofs.Common.{◌≡◌, length, take, sym, ap, ◌∙◌, arith, rules}
-use Rattle.block_records.proofs.arrays.ArrayLaws.{take_within, within_few}
-use Rattle.block_records.proofs.arrays.LoopLaws.{length_mapped}
-use Rattle.block_records.proofs.arrays.PlaceLaws.{place_found, place_gap, place_next, place_passed, place_start}
+use mathlib.Core.Path.{ap, ◌∙◌}
+use borrow.Author.Rules.{rules}
+use Rattle.blocks_cache.specs.declared.tail_ids.TailIdsRow.{TailIdsRow}
+use Rattle.block_records.proofs.rules.BlockIdLaws.{shard_ordering}
 use Rattle.block_records.specs.arrays.Place.{place}
-use Rattle.blocks_cache.specs.arrays.TailIds.{row_at, row_below, zero_tail}
+use Rattle.blocks_cache.proofs.arrays.TailRowLaws.{row_searched}
+use Rattle.blocks_cache.specs.arrays.TailIds.{row_at, row_below}
 use Rattle.blocks_cache.proofs.tail_ids.row_place.Goals as goal
-
-pub loop-i-init : goal.loop-i-init
-loop-i-init c =
-    let k = c.listed_count-listed.result in
-    let p = row_below c.args.shard in
-    let q = row_at c.args.shard in
-    let e = ap (λ n. take n c.args.tails.rows) c.listed_count-listed.ensures ∙ take_within 17 c.args.tails.count c.args.tails.rows (let long : length c.args.tails.rows ≡ 17 = search (rules, length_mapped) in long) in
-    (search rules, rw c.listed_count-listed.ensures (within_few 17 c.args.tails.count), ap (place p q) (sym e) ∙ place_start p q c.args.tails.rows k)
-
-pub returns-then-same_shard : goal.returns-then-same_shard
-returns-then-same_shard c =
-    let n : length c.args.tails.rows ≡ 17 = search (rules, length_mapped) in
-    let l = c.loop-i-test.true in
-    let k = c.loop-i.invariant.1 in
-    sym (c.loop-i.invariant.2 ∙ place_found (row_below c.args.shard) (row_at c.args.shard) _ c.args.tails.rows _ _ (omega arith) l (sym c.less_shard.ensures ∙ c.if-not-less_shard.true) (sym c.same_shard.ensures ∙ c.if-same_shard.true))
-
-pub returns-then-not-less_shard : goal.returns-then-not-less_shard
-returns-then-not-less_shard c =
-    let n : length c.args.tails.rows ≡ 17 = search (rules, length_mapped) in
-    let l = c.loop-i-test.true in
-    let k = c.loop-i.invariant.1 in
-    sym (c.loop-i.invariant.2 ∙ place_gap (row_below c.args.shard) (row_at c.args.shard) _ c.args.tails.rows _ _ (omega arith) l (sym c.less_shard.ensures ∙ c.if-not-less_shard.true) (sym c.same_shard.ensures ∙ c.if-same_shard.false))
-
-pub loop-i-preserved : goal.loop-i-preserved
-loop-i-preserved c =
-    let n : length c.args.tails.rows ≡ 17 = search (rules, length_mapped) in
-    let l = c.loop-i-test.true in
-    let k = c.loop-i.invariant.1 in
-    (search rules, k, c.loop-i.invariant.2 ∙ place_next (row_below c.args.shard) (row_at c.args.shard) _ c.args.tails.rows _ _ (omega arith) l (sym c.less_shard.ensures ∙ c.if-not-less_shard.false))
 
 pub returns : goal.returns
 returns c =
-    sym (c.loop-i.invariant.2 ∙ place_passed (row_below c.args.shard) (row_at c.args.shard) zero_tail c.args.tails.rows _ _ c.loop-i-test.false)
+    c.place_by.ensures.place (λ (r : TailIdsRow). shard_ordering r.shard c.args.shard) (search rules) ∙ row_searched c.args.shard c.listed.result.now
+    ∙ ap (place (row_below c.args.shard) (row_at c.args.shard)) c.listed.ensures

@@ -1,10 +1,7 @@
--- The invariant of the loop: the tops that are left make of the walk so far what all make of the first.
-use Rattle.std.proofs.Common.{◌-◌}
+-- The tops that are left make of the walk so far what all make of the first.
 use Rattle.blocks_cache.proofs.arrays.TailWalkLaws.{TopsTaken}
+use Rattle.blocks_cache.specs.arrays.TailIds.{first_state}
 use Rattle.blocks_cache.proofs.tail_ids.take_tops.Given as goal
 
-abbrev pub invariant-loop-i : goal.invariant-loop-i
-invariant-loop-i l = TopsTaken l.cache l.mc_seqno l.tops.items l.listed l.initial.tails l.i l.tails l.ids l.fingerprints l.count
-
-abbrev pub decreases-loop-i : goal.decreases-loop-i
-decreases-loop-i l = l.listed - l.i
+abbrev pub invariant-loop-top : goal.invariant-loop-top
+invariant-loop-top l = TopsTaken l.cache l.mc_seqno (first_state l.fn.first) l.top-items l.top-index l.tails l.queue

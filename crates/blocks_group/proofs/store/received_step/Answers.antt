@@ -1,24 +1,45 @@
--- Each branch is a case of the definition.
-use mathlib.Core.Path.{◌∙◌, sym}
-use Rattle.blocks_group.proofs.arrays.StoreStepLaws.{received_again, received_fresh, received_full, received_other, received_same}
+-- By what stands at the seqno: nothing; a Received block; a Collated one of the same id or of another.
+use mathlib.Core.Path.{◌≡◌, ap, sym, ◌∙◌}
+use Rattle.std.specs.Prelude.{false, true}
+use Rattle.block_records.proofs.rules.Tests.{not_false, not_true}
+use Rattle.block_records.specs.layout.Entry.{held_received}
+use Rattle.block_records.specs.rules.BlockId.{same_id}
+use Rattle.block_records.specs.rules.Entry.{kind_received}
+use Rattle.blocks_group.specs.arrays.Store.{received_step}
+use Rattle.blocks_group.specs.layout.Block.{block_kind}
 use Rattle.blocks_group.proofs.store.received_step.Goals as goal
 
 pub returns-then-room : goal.returns-then-room
-returns-then-room c =
-    c.stored_step.ensures ∙ received_fresh c.args.zerostate c.args.r c.args.room c.args.found c.args.block _ c.in_default.is _ c.if-room.true c.fresh_received_master-fresh.ensures
+unfolding received_step
+returns-then-room g c = rw (c.in_default.is, c.if-room.true, c.stored_step.ensures, c.of-fresh.ensures, c.fresh_received.ensures, c.stored_tops.ensures)
 
 pub returns-in_default : goal.returns-in_default
-returns-in_default c =
-    c.refused_step.ensures ∙ received_full c.args.zerostate c.args.r c.args.room c.args.found c.args.block _ c.in_default.is c.if-room.false
+unfolding received_step
+returns-in_default g c = rw (c.in_default.is, c.if-room.false, c.refused_step.ensures)
 
 pub returns-then-held_received : goal.returns-then-held_received
-returns-then-held_received c =
-    c.refused_step-then-held_received.ensures ∙ received_again c.args.zerostate c.args.r c.args.room c.args.found c.args.block _ c.in-Ok.is (sym c.held_received.ensures ∙ c.if-held_received.true)
+unfolding received_step
+returns-then-held_received g c =
+    let t : kind_received (block_kind g.B.Block.parts c.in-Some.block) ≡ true =
+    sym (c.held_received.ensures ∙ ap held_received c.entry-entry.ensures) ∙ c.if-held_received.true in
+    rw (c.in-Some.is, c.refused_step-then-held_received.ensures, t)
 
-pub returns-then-not-same_id : goal.returns-then-not-same_id
-returns-then-not-same_id c =
-    c.stored_step-then-not-same_id.ensures ∙ received_other c.args.zerostate c.args.r c.args.room c.args.found c.args.block _ c.in-Ok.is (sym c.held_received.ensures ∙ c.if-held_received.false) _ (sym c.same_id.ensures ∙ c.if-not-same_id.true) c.fresh_received_master-fresh-then-not-same_id.ensures
+pub returns-then-ne : goal.returns-then-ne
+unfolding received_step
+returns-then-ne g c =
+    let k = g.B.Block.parts in
+    let b = c.in-Some.block in
+    let t : kind_received (block_kind k b) ≡ false = sym (c.held_received.ensures ∙ ap held_received c.entry-entry.ensures) ∙ c.if-held_received.false in
+    let u : same_id (k.entry b).block_id c.args.r.block_id ≡ false =
+    ap (λ x. same_id x.block_id c.args.r.block_id) (sym c.entry-entry.ensures) ∙ not_true _ (sym c.ne.ensures ∙ c.if-ne.true) in
+    rw (c.in-Some.is, c.stored_step-then-ne.ensures, c.of-fresh-then-ne.ensures, c.fresh_received-then-ne.ensures, c.stored_tops-then-ne.ensures, t, u)
 
 pub returns : goal.returns
-returns c =
-    c.stored_step-2.ensures ∙ received_same c.args.zerostate c.args.r c.args.room c.args.found c.args.block _ c.in-Ok.is (sym c.held_received.ensures ∙ c.if-held_received.false) _ _ (sym c.same_id.ensures ∙ c.if-not-same_id.false) c.received_kind-kind.ensures c.with_block_data-synced.ensures
+unfolding received_step
+returns g c =
+    let k = g.B.Block.parts in
+    let b = c.in-Some.block in
+    let t : kind_received (block_kind k b) ≡ false = sym (c.held_received.ensures ∙ ap held_received c.entry-entry.ensures) ∙ c.if-held_received.false in
+    let u : same_id (k.entry b).block_id c.args.r.block_id ≡ true =
+    ap (λ x. same_id x.block_id c.args.r.block_id) (sym c.entry-entry.ensures) ∙ not_false _ (sym c.ne.ensures ∙ c.if-ne.false) in
+    rw (c.in-Some.is, c.stored_step-2.ensures, c.with_data-synced.ensures, c.received_kind.ensures, c.entry-entry.ensures, t, u)
