@@ -3,16 +3,19 @@ use std::hint::black_box;
 use std::time::Instant;
 
 // Fields stand in the order in which the records declare them, each at a multiple of its alignment.
-const BLOCK_ID: usize = 8 + 4 + 4 + 32 + 32;
+const SHARD: usize = 8 + 8;
+const BLOCK_ID: usize = SHARD + 4 + 32 + 32 + 4;
 const PREV_IDS: usize = 2 * BLOCK_ID + 8;
 const TOP_BLOCK: usize = 8 + BLOCK_ID + 8;
 const TOP_BLOCKS: usize = 8 * TOP_BLOCK + 8;
 const KIND: usize = 32;
 const ENTRY: usize = BLOCK_ID + PREV_IDS + 8 + 8 + 8 + KIND;
-const GROUP: usize = 16 * ENTRY + 8 + 8 + 24;
-const MASTER_GROUP: usize = GROUP + 16 * TOP_BLOCKS;
+// A group's count, mark and boundary.
+const MARKS: usize = 8 + 8 + 32;
+const GROUP: usize = 16 * ENTRY + MARKS;
+const MASTER_GROUP: usize = 16 * (ENTRY + TOP_BLOCKS) + MARKS;
 const MASTER_DATA: usize = 32 * BLOCK_ID + 8 + 16;
-const CACHE: usize = 8 + MASTER_GROUP + MASTER_DATA + 8 * (16 + GROUP) + 8;
+const CACHE: usize = 8 + MASTER_GROUP + MASTER_DATA + 8 * (SHARD + GROUP) + 8;
 
 fn main() {
     let times: u32 = std::env::args().nth(1).and_then(|n| n.parse().ok()).expect("pass TIMES");
