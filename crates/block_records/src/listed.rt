@@ -1,10 +1,10 @@
 // Lists in a fixed number of places: no memory is asked for, and a count says how many places are listed.
 ghost use Rattle.std.specs.declared.cmp.Ordering.{Ordering};
 ghost use Rattle.std.specs.Ordering.{is_eq, is_lt};
-ghost use Rattle.std.specs.Prelude.{◌≡◌, ◌+◌, ◌++◌, ◌≤◌, [], ◌∷◌, Bool, drop, filter, length, nat_lt, option_map, slice_get, take};
+ghost use Rattle.std.specs.Prelude.{◌≡◌, ◌+◌, ◌++◌, ◌≤◌, [], ◌<◌, ◌∷◌, Bool, drop, filter, length, nat_lt, option_map, slice_get, take};
 ghost use Rattle.block_records.specs.arrays.Arrays.{Splices, spliced};
 ghost use Rattle.block_records.specs.arrays.Place.{IsWithin, place};
-ghost use Rattle.block_records.specs.layout.Listed.{Compares, packed, put_listed};
+ghost use Rattle.block_records.specs.layout.Listed.{Compares, packed, pushed, put_listed, tidy_listed};
 
 use std::cmp::Ordering;
 
@@ -20,11 +20,8 @@ impl<T, const N: usize> Listed<T, N> {
     pub fn listed(&self) -> &[T]
         ensures { result.now ≡ take self.now.count self.now.items }
     {
-        if self.count < N {
-            &self.items[..self.count]
-        } else {
-            &self.items
-        }
+        let items: &[T] = &self.items;
+        items.get(..self.count).unwrap_or(items)
     }
 
     // What stands in the places after them.
@@ -32,11 +29,10 @@ impl<T, const N: usize> Listed<T, N> {
         ensures rest { result.now ≡ drop self.now.count self.now.items }
         ensures places { length self.now.items ≡ N }
     {
-        from_place(&self.items, self.count)
+        let items: &[T] = &self.items;
+        items.get(self.count..).unwrap_or(&[])
     }
-}
 
-impl<T, const N: usize> Listed<T, N> {
     // Whether fewer items are listed than there are places.
     pub fn has_place(&self) -> bool
         ensures { result ≡ nat_lt (length (take self.now.count self.now.items)) N }
@@ -56,10 +52,22 @@ impl<T, const N: usize> Listed<T, N> {
             None
         }
     }
+
+    // Whether the count is within the places and zeros stand after what is listed.
+    pub fn is_tidy<F: Fn(&T) -> bool>(&self, is_zero: F) -> bool
+        requires { F.IsAlwaysCallable is_zero }
+        ensures tidy { (p : T → Bool) → ((x : _) (b : Bool) → F.post is_zero x b → b ≡ p x.now) → result ≡ tidy_listed N p self.now }
+        ensures places { length self.now.items ≡ N }
+    {
+        let few = self.count <= N;
+        let zeros = self.unlisted().iter().all(|item| is_zero(item));
+        few & zeros
+    }
 }
 
 impl<T: Copy, const N: usize> Listed<T, N> {
     // No item, zeros in every place.
+    #[tactic(auto, using(crate::proofs::arrays::ListedLaws::packed_nil))]
     pub fn empty(zero: T) -> Self
         ensures { result ≡ packed N zero [] }
     {
@@ -70,6 +78,7 @@ impl<T: Copy, const N: usize> Listed<T, N> {
     }
 
     // The items below the count, and zeros after them, whatever the caller left there.
+    #[tactic(auto, using(crate::proofs::arrays::ListedLaws::packed_over))]
     pub fn stored(&self, zero: T) -> Self
         ensures { result ≡ packed N zero (take self.now.count self.now.items) }
     {
@@ -79,9 +88,17 @@ impl<T: Copy, const N: usize> Listed<T, N> {
         kept[..count].copy_from_slice(listed);
         Listed { count, items: kept }
     }
-}
 
-impl<T: Copy, const N: usize> Listed<T, N> {
+    // One more item, in the place after those that are listed.
+    pub fn push(&mut self, item: T)
+        requires { self.old.count < N }
+        ensures { self.new ≡ pushed item self.old }
+    {
+        let items: &mut [T] = &mut self.items;
+        items[self.count] = item;
+        self.count += 1;
+    }
+
     // The first `at` items, the given one, and those of place `from` on; zeros after them.
     pub fn spliced(&self, at: usize, from: usize, item: T, zero: T) -> Self
         requires { Splices N at from (length (take self.now.count self.now.items)) }
@@ -101,19 +118,15 @@ impl<T: Copy, const N: usize> Listed<T, N> {
         requires { F.IsAlwaysCallable stays }
         ensures { (p : T → Bool) → ((x : _) (b : Bool) → F.post stays x b → b ≡ p x.now) → result ≡ packed N zero (filter p (take self.now.count self.now.items)) }
     {
-        let mut items = [zero; N];
-        let mut count = 0;
+        let mut kept = Listed::empty(zero);
         for item in self.listed() {
             if stays(item) {
-                items[count] = *item;
-                count += 1;
+                kept.push(*item);
             }
         }
-        Listed { count, items }
+        kept
     }
-}
 
-impl<T: Copy, const N: usize> Listed<T, N> {
     // The item in its place, by what comparing it tells of each that is listed: the one that is equal to it is replaced. Where every place is taken and none is equal, nothing changes.
     pub fn put_by<F: Fn(&T) -> Ordering>(&self, compare: F, item: T, zero: T) -> Self
         requires { F.IsAlwaysCallable compare }
@@ -145,7 +158,9 @@ fn put_parts<T: Copy>(out: &mut [T], before: &[T], item: T, after: &[T])
     back.copy_from_slice(after);
 }
 
-// Where the first item stands that does not come before what is asked for, if it is that; else the place where that would go in.
+// Where the first item stands that does not come before what is asked for, if it is that; else the place where that would go in. Std's `binary_search_by`
+// promises its place of lists that rise alone; this is said of every list, sound or not.
+#[tactic(auto, unfolding(crate::specs::arrays::Place::place))]
 pub fn place_by<T, F: Fn(&T) -> Ordering>(items: &[T], compare: F) -> Result<usize, usize>
     requires { F.IsAlwaysCallable compare }
     ensures place { (cmp : T → Ordering) → ((x : _) (o : Ordering) → F.post compare x o → o ≡ cmp x.now) → result ≡ place (λ x. is_lt (cmp x)) (λ x. is_eq (cmp x)) items.now }
@@ -159,15 +174,4 @@ pub fn place_by<T, F: Fn(&T) -> Ordering>(items: &[T], compare: F) -> Result<usi
         }
     }
     Err(items.len())
-}
-
-// What stands from a place on; nothing where there is no such place.
-fn from_place<T>(items: &[T], place: usize) -> &[T]
-    ensures { result.now ≡ drop place items.now }
-{
-    if place < items.len() {
-        &items[place..]
-    } else {
-        &items[items.len()..]
-    }
 }

@@ -196,6 +196,7 @@ pub fn check_keys(keys: Keys) -> Result<(), Refusal>
 }
 
 // Questions 2 to 4 at once: whether all are true of a cached entry with its top items.
+#[tactic(auto, using(crate::proofs::layout::QuestionLaws::checked_fits))]
 pub fn held_entry_fits(entry: BlockCacheEntry, tops: TopBlocks) -> bool
     ensures { result ≡ held_entry_fits entry tops }
 {

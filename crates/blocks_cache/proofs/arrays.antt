@@ -1,6 +1,8 @@
+pub mod CheckLaws
 pub mod CollectionLaws
 pub mod MasterDataLaws
 pub mod ShardsLaws
+pub mod TailQueueLaws
 pub mod TailRowLaws
 pub mod TailWalkLaws
 pub mod FirstPlaceLaws

@@ -1,5 +1,6 @@
 pub mod CacheLaws
 pub mod CallLaws
 pub mod CallOnLaws
+pub mod AskedLaws
 pub mod TidyLaws
 pub mod SoundnessLaws

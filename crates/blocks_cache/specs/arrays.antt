@@ -9,3 +9,4 @@ pub mod Peek
 pub mod Collection
 pub mod Subgraphs
 pub mod TailIds
+pub mod TailQueue

@@ -26,7 +26,8 @@ pub struct Cache {
     pub shards: Shards,
 }
 
-// A new cache, or its refusal, beside which stands a cache on which every call is refused with 1.
+// A new cache, or its refusal. The rules promise a cache beside the refusal too, on which every call is refused with 1
+// (Theorems.no_cache_refuses_every_call), so it is no `Result` of a cache.
 #[derive(Clone, Copy, Debug, PartialEq, Eq)]
 pub struct NewCache {
     pub answer: Result<(), Refusal>,
@@ -44,6 +45,7 @@ pub fn zero_shard_group() -> ShardGroup
 }
 
 // Zeros, but for the zerostate's seqno and the count of shard groups.
+#[tactic(auto, unfolding(crate::specs::layout::Cache::zero_cache))]
 fn zero_cache(zerostate: u32, count: usize) -> Cache
     ensures { result ≡ zero_cache zerostate count }
 {
@@ -62,6 +64,7 @@ fn zero_cache(zerostate: u32, count: usize) -> Cache
 }
 
 // An empty cache for a zerostate seqno, or the refusal of that seqno.
+#[tactic(auto, using(crate::proofs::layout::CacheLaws::pack_empty))]
 pub fn empty(zerostate_mc_seqno: u32) -> NewCache
     ensures { result ≡ empty zerostate_mc_seqno }
 {

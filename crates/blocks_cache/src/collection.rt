@@ -2,177 +2,152 @@
 ghost use Rattle.std.specs.List.{fold};
 ghost use Rattle.std.specs.Prelude.{◌≡◌};
 ghost use Rattle.block_records.specs.rules.BlockId.{listed_keys};
-ghost use Rattle.blocks_cache.specs.arrays.Collection.{change_outcome, collect_shards, drop_collected, drop_removed, held_bound_one, held_collect, held_remove_one, keys_answer};
-ghost use Rattle.blocks_cache.specs.layout.Cache.{call_on};
+ghost use Rattle.blocks_cache.specs.arrays.Collection.{change_says, collect_shards, drop_collected, drop_removed, held_bound_one, held_collect, held_remove_one};
+ghost use Rattle.blocks_cache.specs.layout.Cache.{call_on, unlent_outcome};
 ghost use Rattle.cache_rules.specs.Calls.{collect, remove_next_collated, set_boundary, unlent};
 
 use crate::cache::{Cache, Shards};
-use crate::master_data::{MasterData, drop_ids_below, drop_ids_from};
+use crate::master_data::MasterData;
 use crate::shards::shard_place;
-use crate::soundness::sound_cache;
 use block_records::block_id::BlockIdShort;
 use block_records::questions::{Refusal, check_keys};
 use block_records::store_records::Keys;
 
-#[derive(Clone, Copy, Debug, PartialEq, Eq)]
-pub struct CacheChange {
-    pub answer: Result<(), Refusal>,
-    pub cache: Cache,
-}
-
-// ===== keys =====
-
-// Question 1, then those of the keys.
-fn keys_answer(cache: Cache, given: Keys) -> Result<(), Refusal>
-    ensures { result ≡ keys_answer given cache }
-{
-    if !sound_cache(cache) {
-        return Err(Refusal::Unsound);
-    }
-    check_keys(given)
-}
-
 // ===== set boundary =====
 
-// The key becomes the boundary of its shard's group, if there is one.
-fn held_bound_one(cache: &mut Cache, key: BlockIdShort)
-    ensures { cache.new ≡ held_bound_one cache.old key }
-{
-    if key.shard.is_masterchain() {
-        cache.masters.boundary = Some(key);
-        return;
+impl Cache {
+    // The key becomes the boundary of its shard's group, if there is one.
+    #[tactic(auto, unfolding(crate::specs::arrays::Collection::held_bound_one))]
+    fn held_bound_one(&mut self, key: BlockIdShort)
+        ensures { self.new ≡ held_bound_one self.old key }
+    {
+        if key.shard.is_masterchain() {
+            self.masters.boundary = Some(key);
+            return;
+        }
+        if let Ok(at) = shard_place(self.shards.listed(), key.shard) {
+            self.shards.items[at].group.boundary = Some(key);
+        }
     }
-    if let Ok(at) = shard_place(cache.shards.listed(), key.shard) {
-        cache.shards.items[at].group.boundary = Some(key);
-    }
-}
 
-fn bound_all(cache: &mut Cache, given: Keys)
-    ensures { cache.new ≡ fold held_bound_one cache.old (listed_keys given) }
-{
-    for key in given.listed() {
-        held_bound_one(cache, *key);
+    // Each listed key in turn.
+    fn bound_all(&mut self, given: Keys)
+        ensures { self.new ≡ fold held_bound_one self.old (listed_keys given) }
+    {
+        for key in given.listed() {
+            self.held_bound_one(*key);
+        }
     }
-}
 
-pub fn set_gc_to_boundary(cache: Cache, to_blocks_keys: Keys) -> CacheChange
-    ensures { change_outcome result ≡ call_on cache (unlent (set_boundary to_blocks_keys)) }
-{
-    if let Err(refusal) = keys_answer(cache, to_blocks_keys) {
-        return CacheChange {
-            answer: Err(refusal),
-            cache,
-        };
-    }
-    let mut left = cache;
-    bound_all(&mut left, to_blocks_keys);
-    CacheChange {
-        answer: Ok(()),
-        cache: left,
+    #[tactic(auto, using(crate::proofs::layout::AskedLaws::unsound_refused, crate::proofs::arrays::CollectionLaws::boundary_refuses, crate::proofs::arrays::CollectionLaws::boundary_is))]
+    pub fn set_gc_to_boundary(&mut self, to_blocks_keys: Keys) -> Result<(), Refusal>
+        ensures { unlent_outcome self.new (change_says result) ≡ call_on self.old (unlent (set_boundary to_blocks_keys)) }
+    {
+        self.check_sound()?;
+        check_keys(to_blocks_keys)?;
+        self.bound_all(to_blocks_keys);
+        Ok(())
     }
 }
 
 // ===== collect =====
 
-// The ids from the highest collected master on stay.
-fn drop_collected(data: MasterData, highest: Option<u32>) -> MasterData
-    ensures { result ≡ drop_collected highest «data» }
-{
-    match highest {
-        None => data,
-        Some(seqno) => drop_ids_below(data, seqno),
+impl MasterData {
+    // The ids from the highest collected master on stay.
+    fn drop_collected(&mut self, highest: Option<u32>)
+        ensures { self.new ≡ drop_collected highest self.old }
+    {
+        if let Some(seqno) = highest {
+            self.drop_ids_below(seqno);
+        }
     }
 }
 
-// Each listed shard group without its blocks below its boundary.
-fn collect_shards(shards: Shards) -> Shards
-    ensures { result ≡ collect_shards shards }
+// Each listed group without its blocks below its boundary.
+#[tactic(auto, using(crate::proofs::arrays::CollectionLaws::collected_next))]
+fn collect_shards(shards: &mut Shards)
+    ensures { shards.new ≡ collect_shards shards.old }
 {
-    let mut left = shards;
-    for at in 0..shards.listed().len() {
-        left.items[at].group = shards.items[at].group.collected();
-    }
-    left
-}
-
-// Every group is collected by its boundary, and ids are dropped by the masters collected; the range stays.
-fn held_collect(cache: Cache) -> Cache
-    ensures { result ≡ held_collect cache }
-{
-    let highest = cache.masters.highest_below_boundary();
-    Cache {
-        masters: cache.masters.collected(),
-        data: drop_collected(cache.data, highest),
-        shards: collect_shards(cache.shards),
-        ..cache
+    let count = shards.listed().len();
+    let (listed, _) = shards.items.split_at_mut(count);
+    for held in listed.iter_mut() {
+        held.group = held.group.collected();
     }
 }
 
-pub fn gc_prev_blocks(cache: Cache) -> CacheChange
-    ensures { change_outcome result ≡ call_on cache (unlent collect) }
-{
-    if !sound_cache(cache) {
-        return CacheChange {
-            answer: Err(Refusal::Unsound),
-            cache,
-        };
+impl Cache {
+    // Every group is collected by its boundary, and ids are dropped by the masters collected; the range stays.
+    #[tactic(auto, unfolding(crate::specs::arrays::Collection::held_collect))]
+    fn held_collect(&mut self)
+        ensures { self.new ≡ held_collect self.old }
+    {
+        let highest = self.masters.highest_below_boundary();
+        self.masters = self.masters.collected();
+        self.data.drop_collected(highest);
+        collect_shards(&mut self.shards);
     }
-    CacheChange {
-        answer: Ok(()),
-        cache: held_collect(cache),
+
+    #[tactic(auto, using(crate::proofs::layout::AskedLaws::unsound_refused, crate::proofs::arrays::CollectionLaws::collect_is))]
+    pub fn gc_prev_blocks(&mut self) -> Result<(), Refusal>
+        ensures { unlent_outcome self.new (change_says result) ≡ call_on self.old (unlent collect) }
+    {
+        self.check_sound()?;
+        self.held_collect();
+        Ok(())
     }
 }
 
 // ===== remove next collated =====
 
-// The ids below the lowest removed master stay.
-fn drop_removed(data: MasterData, lowest: Option<u32>) -> MasterData
-    ensures { result ≡ drop_removed lowest «data» }
-{
-    match lowest {
-        None => data,
-        Some(seqno) => drop_ids_from(data, seqno),
+impl MasterData {
+    // The ids below the lowest removed master stay.
+    fn drop_removed(&mut self, lowest: Option<u32>)
+        ensures { self.new ≡ drop_removed lowest self.old }
+    {
+        if let Some(seqno) = lowest {
+            self.drop_ids_from(seqno);
+        }
     }
 }
 
-// The key's group, if there is one, loses the blocks above the key's seqno that are not Received; ids are dropped by the masters removed; the range
-// stays.
-fn held_remove_one(cache: &mut Cache, key: BlockIdShort)
-    ensures { cache.new ≡ held_remove_one cache.old key }
-{
-    if key.shard.is_masterchain() {
-        let lowest = cache.masters.lowest_collated_above(key.seqno);
-        cache.masters = cache.masters.without_collated_above(key.seqno);
-        cache.data = drop_removed(cache.data, lowest);
-        return;
+impl Cache {
+    // The key's group, if there is one, loses the blocks above the key's seqno that are not Received; ids are dropped by the masters removed; the
+    // range stays.
+    #[tactic(auto, unfolding(crate::specs::arrays::Collection::held_remove_one))]
+    fn held_remove_one(&mut self, key: BlockIdShort)
+        ensures { self.new ≡ held_remove_one self.old key }
+    {
+        if key.shard.is_masterchain() {
+            let lowest = self.masters.lowest_collated_above(key.seqno);
+            self.masters = self.masters.without_collated_above(key.seqno);
+            self.data.drop_removed(lowest);
+            return;
+        }
+        if let Ok(at) = shard_place(self.shards.listed(), key.shard) {
+            let group = self.shards.items[at].group;
+            self.shards.items[at].group = group.without_collated_above(key.seqno);
+        }
     }
-    if let Ok(at) = shard_place(cache.shards.listed(), key.shard) {
-        let group = cache.shards.items[at].group;
-        cache.shards.items[at].group = group.without_collated_above(key.seqno);
-    }
-}
 
-fn remove_all(cache: &mut Cache, given: Keys)
-    ensures { cache.new ≡ fold held_remove_one cache.old (listed_keys given) }
-{
-    for key in given.listed() {
-        held_remove_one(cache, *key);
+    // Each listed key in turn.
+    fn remove_all(&mut self, given: Keys)
+        ensures { self.new ≡ fold held_remove_one self.old (listed_keys given) }
+    {
+        for key in given.listed() {
+            self.held_remove_one(*key);
+        }
     }
-}
 
-pub fn remove_next_collated_blocks_from_cache(cache: Cache, after_blocks_keys: Keys) -> CacheChange
-    ensures { change_outcome result ≡ call_on cache (unlent (remove_next_collated after_blocks_keys)) }
-{
-    if let Err(refusal) = keys_answer(cache, after_blocks_keys) {
-        return CacheChange {
-            answer: Err(refusal),
-            cache,
-        };
-    }
-    let mut left = cache;
-    remove_all(&mut left, after_blocks_keys);
-    CacheChange {
-        answer: Ok(()),
-        cache: left,
+    #[tactic(auto, using(crate::proofs::layout::AskedLaws::unsound_refused, crate::proofs::arrays::CollectionLaws::removal_refuses, crate::proofs::arrays::CollectionLaws::removal_is))]
+    pub fn remove_next_collated_blocks_from_cache(
+        &mut self,
+        after_blocks_keys: Keys,
+    ) -> Result<(), Refusal>
+        ensures { unlent_outcome self.new (change_says result) ≡ call_on self.old (unlent (remove_next_collated after_blocks_keys)) }
+    {
+        self.check_sound()?;
+        check_keys(after_blocks_keys)?;
+        self.remove_all(after_blocks_keys);
+        Ok(())
     }
 }

@@ -16,6 +16,7 @@ pub(crate) fn shard_place(groups: &[ShardGroup], shard: ShardIdent) -> Result<us
 }
 
 // The group of a shard, if it has one.
+#[tactic(auto, using(std::proofs::lemmas::List::get_or_default))]
 pub(crate) fn listed_shard(shards: &Shards, shard: ShardIdent) -> Option<&ShardGroup>
     ensures { option_map (λ held. held.now) result ≡ listed_shard shard shards.now }
 {

@@ -1,16 +1,17 @@
 // RULES.md, Soundness: question 1, of the whole cache.
 ghost use Rattle.std.specs.List.{list_all};
-ghost use Rattle.std.specs.Prelude.{◌≡◌};
+ghost use Rattle.std.specs.Prelude.{◌≡◌, length};
+ghost use Rattle.block_records.specs.rules.Limits.{shards_limit};
 ghost use Rattle.block_records.specs.rules.Lists.{rising};
 ghost use Rattle.blocks_cache.specs.layout.Cache.{is_zero_shard_group, shard_group_before, sound_cache, sound_shard_group, sound_shards};
 
 use crate::cache::{Cache, ShardGroup, Shards};
-use crate::master_data::{sound_ids, sound_range};
+use crate::master_data::sound_range;
 use block_records::block_id::zero_shard;
-use block_records::limits::SHARDS_LIMIT;
 
 // ===== shard groups =====
 
+#[tactic(auto, unfolding(crate::specs::layout::Cache::same_shard_group, crate::specs::layout::Cache::zero_shard_group))]
 fn is_zero_shard_group(held: &ShardGroup) -> bool
     ensures { result ≡ is_zero_shard_group held.now }
 {
@@ -28,12 +29,6 @@ fn sound_shard_group(held: &ShardGroup) -> bool
     outside & sound
 }
 
-fn shards_zero(groups: &[ShardGroup]) -> bool
-    ensures { result ≡ list_all is_zero_shard_group groups.now }
-{
-    groups.iter().all(|held| is_zero_shard_group(held))
-}
-
 fn shards_each_sound(groups: &[ShardGroup]) -> bool
     ensures { result ≡ list_all sound_shard_group groups.now }
 {
@@ -48,23 +43,25 @@ fn shards_rise(groups: &[ShardGroup]) -> bool
 }
 
 fn sound_shards(shards: &Shards) -> bool
-    ensures { result ≡ sound_shards shards.now }
+    ensures sound { result ≡ sound_shards shards.now }
+    ensures places { length shards.now.items ≡ shards_limit }
 {
-    let few = shards.count <= SHARDS_LIMIT;
-    let zeros = shards_zero(shards.unlisted());
+    let tidy = shards.is_tidy(|held| is_zero_shard_group(held));
     let rise = shards_rise(shards.listed());
     let sound = shards_each_sound(shards.listed());
-    few & (zeros & (rise & sound))
+    tidy & (rise & sound)
 }
 
 // ===== question 1 =====
 
-pub fn sound_cache(cache: Cache) -> bool
-    ensures { result ≡ sound_cache cache }
-{
-    let masters = cache.masters.is_sound(|shard| shard.is_masterchain());
-    let range = sound_range(cache.masters.mark, cache.data.range);
-    let ids = sound_ids(cache.data);
-    let shards = sound_shards(&cache.shards);
-    masters & (range & (ids & shards))
+impl Cache {
+    pub fn is_sound(&self) -> bool
+        ensures { result ≡ sound_cache self.now }
+    {
+        let masters = self.masters.is_sound(|shard| shard.is_masterchain());
+        let range = sound_range(self.masters.mark, self.data.range);
+        let ids = self.data.sound_ids();
+        let shards = sound_shards(&self.shards);
+        masters & (range & (ids & shards))
+    }
 }

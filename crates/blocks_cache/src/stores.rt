@@ -1,15 +1,12 @@
 // RULES.md, Collated store, Received store and Master data: the two stores.
 ghost use Rattle.std.specs.Prelude.{◌≡◌};
-ghost use Rattle.blocks_cache.specs.arrays.Stores.{collated_ids, ids_after, nothing_stored, shard_held, store_candidate, store_master_candidate, store_master_receipt, store_outcome, store_receipt, store_shard_candidate, store_shard_receipt, stored_in, stored_mismatch, zeroed_store};
-ghost use Rattle.blocks_cache.specs.layout.Cache.{call_on};
+ghost use Rattle.blocks_cache.specs.arrays.Stores.{collated_ids, shard_held, store_candidate, store_master_candidate, store_master_receipt, store_receipt, store_result, store_says, store_shard_candidate, store_shard_receipt};
+ghost use Rattle.blocks_cache.specs.layout.Cache.{call_on, unlent_outcome};
 ghost use Rattle.cache_rules.specs.Calls.{store_collated, store_received, unlent};
 
 use crate::cache::{Cache, ShardGroup, Shards};
-use crate::master_data::{
-    MasterData, drop_ids_from, has_place_for_id, highest_id, moved_end, moved_start, put_id,
-};
+use crate::master_data::MasterData;
 use crate::shards::{listed_shard, put_shard};
-use crate::soundness::sound_cache;
 use block_records::block_id::{BlockId, ShardIdent};
 use block_records::questions::{Refusal, check_candidate, check_received};
 use block_records::range::AppliedRange;
@@ -17,230 +14,218 @@ use block_records::store_records::{BlockCandidate, ReceivedBlock};
 use blocks_group::group::{Group, ShardBlocks};
 use blocks_group::store::StoreAnswer;
 
-// What a store leaves and answers. Synced and refusals carry no further values: id and range are absent.
+// What a store answers: the flags, with the last id and the range of the cache as it is left; or that the block is Synced already.
+// An Option would be no plainer: Synced is an answer with a name of its own.
 #[derive(Clone, Copy, Debug, PartialEq, Eq)]
-pub struct BlockCacheStoreResult {
-    pub answer: Result<StoreAnswer, Refusal>,
-    pub last_collated_mc_block_id: Option<BlockId>,
-    pub applied_mc_queue_range: Option<AppliedRange>,
-    pub cache: Cache,
-}
-
-// ===== the answers =====
-
-// Synced or refused: the cache as it was.
-fn nothing_stored(cache: Cache, answer: Result<StoreAnswer, Refusal>) -> BlockCacheStoreResult
-    ensures { result ≡ nothing_stored answer cache }
-{
-    BlockCacheStoreResult {
-        answer,
-        last_collated_mc_block_id: None,
-        applied_mc_queue_range: None,
-        cache,
-    }
-}
-
-// Stored: with the last id and the range of the cache as it is left.
-fn stored_in(cache: Cache, answer: Result<StoreAnswer, Refusal>) -> BlockCacheStoreResult
-    ensures { result ≡ stored_in answer cache }
-{
-    BlockCacheStoreResult {
-        answer,
-        last_collated_mc_block_id: highest_id(cache.data),
-        applied_mc_queue_range: cache.data.range,
-        cache,
-    }
-}
-
-// Of a block that is stored, whether another stood in its place; nothing of one that is not.
-fn stored_mismatch(answer: Result<StoreAnswer, Refusal>) -> Option<bool>
-    ensures { result ≡ stored_mismatch answer }
-{
-    match answer {
-        Ok(StoreAnswer::Stored { block_mismatch, .. }) => Some(block_mismatch),
-        Ok(StoreAnswer::Synced) | Err(_) => None,
-    }
+pub enum BlockCacheStoreResult {
+    Stored {
+        received_and_collated: bool,
+        block_mismatch: bool,
+        last_collated_mc_block_id: Option<BlockId>,
+        applied_mc_queue_range: Option<AppliedRange>,
+    },
+    Synced,
 }
 
 // ===== what a store finds, and what it makes of master data =====
 
-// The group of a shard, an empty one where there is none yet; nothing where it has none and no further group fits.
-fn shard_held(shards: &Shards, shard: ShardIdent) -> Option<ShardBlocks>
+// The group of a shard, an empty one where there is none yet; refused where no further group fits.
+#[tactic(auto, unfolding(crate::specs::arrays::Stores::shard_held))]
+fn shard_held(shards: &Shards, shard: ShardIdent) -> Result<ShardBlocks, Refusal>
     ensures { result ≡ shard_held shard shards.now }
 {
     match listed_shard(shards, shard) {
-        Some(held) => Some(held.group),
-        None if shards.has_place() => Some(Group::empty()),
-        None => None,
+        Some(held) => Ok(held.group),
+        None if shards.has_place() => Ok(Group::empty()),
+        None => Err(Refusal::NoRoom),
     }
 }
 
-// The range moved on past the id, and the id put in.
-fn collated_ids(data: MasterData, id: BlockId) -> MasterData
-    ensures { result ≡ collated_ids id «data» }
-{
-    let range = moved_start(id.seqno, data.range);
-    put_id(MasterData { range, ..data }, id)
+impl MasterData {
+    // The range is moved on past the id, and the id put in.
+    fn collated_ids(&mut self, id: BlockId)
+        ensures { self.new ≡ collated_ids id self.old }
+    {
+        self.move_range_start(id.seqno);
+        self.put_id(id);
+    }
 }
 
-// On a mismatch the ids below a seqno are left.
-fn ids_after(data: MasterData, mismatch: bool, seqno: u32) -> MasterData
-    ensures { result ≡ ids_after mismatch seqno «data» }
-{
-    if mismatch {
-        drop_ids_from(data, seqno)
-    } else {
-        data
+impl Cache {
+    // A group's answer, with the last id and the range as they are now.
+    fn store_result(&self, answer: StoreAnswer) -> BlockCacheStoreResult
+        ensures { result ≡ store_result answer self.now }
+    {
+        match answer {
+            StoreAnswer::Stored {
+                received_and_collated,
+                block_mismatch,
+            } => BlockCacheStoreResult::Stored {
+                received_and_collated,
+                block_mismatch,
+                last_collated_mc_block_id: self.data.highest_id(),
+                applied_mc_queue_range: self.data.range,
+            },
+            StoreAnswer::Synced => BlockCacheStoreResult::Synced,
+        }
     }
 }
 
 // ===== the collated store =====
 
-// A master: where the group's store changes it, the range is moved on past it and its id is put in.
-fn store_master_candidate(cache: Cache, candidate: BlockCandidate) -> BlockCacheStoreResult
-    ensures { result ≡ store_master_candidate candidate cache }
-{
-    let store = cache.masters.store_collated(candidate);
-    let Some(mismatch) = stored_mismatch(store.answer) else {
-        return nothing_stored(cache, store.answer);
-    };
-    if mismatch {
-        return stored_in(cache, store.answer);
+impl Cache {
+    // A master: where the group's store changes it, the range is moved on past it and its id is put in.
+    #[tactic(auto, unfolding(crate::specs::arrays::Stores::store_master_candidate))]
+    fn store_master_candidate(
+        &mut self,
+        candidate: BlockCandidate,
+    ) -> Result<BlockCacheStoreResult, Refusal>
+        ensures { record { answer = result; cache = self.new } ≡ store_master_candidate candidate self.old }
+    {
+        let store = self.masters.store_collated(candidate)?;
+        if let StoreAnswer::Stored {
+            block_mismatch: false,
+            ..
+        } = store.answer
+        {
+            if !self.data.has_place_for_id(candidate.block_id.seqno) {
+                return Err(Refusal::NoIdRoom);
+            }
+            self.masters = store.group;
+            self.data.collated_ids(candidate.block_id);
+        }
+        Ok(self.store_result(store.answer))
     }
-    if !has_place_for_id(cache.data, candidate.block_id.seqno) {
-        return nothing_stored(cache, Err(Refusal::NoIdRoom));
-    }
-    let new = Cache {
-        masters: store.group,
-        data: collated_ids(cache.data, candidate.block_id),
-        ..cache
-    };
-    stored_in(new, store.answer)
-}
 
-// A shard block: its group is put in where the store changes it.
-fn store_shard_candidate(cache: Cache, candidate: BlockCandidate) -> BlockCacheStoreResult
-    ensures { result ≡ store_shard_candidate candidate cache }
-{
-    let shard = candidate.block_id.shard;
-    let Some(held) = shard_held(&cache.shards, shard) else {
-        return nothing_stored(cache, Err(Refusal::NoRoom));
-    };
-    let store = held.store_collated(candidate);
-    let Some(mismatch) = stored_mismatch(store.answer) else {
-        return nothing_stored(cache, store.answer);
-    };
-    if mismatch {
-        return stored_in(cache, store.answer);
+    // A shard block: its group is put in where the store changes it.
+    #[tactic(auto, unfolding(crate::specs::arrays::Stores::store_shard_candidate))]
+    fn store_shard_candidate(
+        &mut self,
+        candidate: BlockCandidate,
+    ) -> Result<BlockCacheStoreResult, Refusal>
+        ensures { record { answer = result; cache = self.new } ≡ store_shard_candidate candidate self.old }
+    {
+        let shard = candidate.block_id.shard;
+        let held = shard_held(&self.shards, shard)?;
+        let store = held.store_collated(candidate)?;
+        if let StoreAnswer::Stored {
+            block_mismatch: false,
+            ..
+        } = store.answer
+        {
+            let put = ShardGroup {
+                shard,
+                group: store.group,
+            };
+            self.shards = put_shard(&self.shards, put);
+        }
+        Ok(self.store_result(store.answer))
     }
-    let put = ShardGroup {
-        shard,
-        group: store.group,
-    };
-    let new = Cache {
-        shards: put_shard(&cache.shards, put),
-        ..cache
-    };
-    stored_in(new, store.answer)
-}
 
-// Questions 7 to 9, and the store.
-fn store_candidate(cache: Cache, candidate: BlockCandidate) -> BlockCacheStoreResult
-    ensures { result ≡ store_candidate candidate cache }
-{
-    if candidate.block_id.shard.is_masterchain() {
-        return store_master_candidate(cache, candidate);
+    // Questions 7 to 9, and the store.
+    #[tactic(auto, unfolding(crate::specs::arrays::Stores::store_candidate))]
+    fn store_candidate(
+        &mut self,
+        candidate: BlockCandidate,
+    ) -> Result<BlockCacheStoreResult, Refusal>
+        ensures { record { answer = result; cache = self.new } ≡ store_candidate candidate self.old }
+    {
+        if candidate.block_id.shard.is_masterchain() {
+            return self.store_master_candidate(candidate);
+        }
+        self.store_shard_candidate(candidate)
     }
-    store_shard_candidate(cache, candidate)
-}
 
-// Question 1, then the candidate's own, then the rest. Refused, the cache is as it was.
-pub fn store_collated(cache: Cache, candidate: BlockCandidate) -> BlockCacheStoreResult
-    ensures { (store_outcome result ≡ call_on cache (unlent (store_collated candidate))) × (result ≡ zeroed_store result) }
-{
-    if !sound_cache(cache) {
-        return nothing_stored(cache, Err(Refusal::Unsound));
+    // Question 1, then the candidate's own, then the rest. Refused, the cache is as it was.
+    #[tactic(auto, using(crate::proofs::layout::AskedLaws::unsound_refused, crate::proofs::arrays::CollatedStoreLaws::candidate_refused, crate::proofs::arrays::CollatedStoreLaws::candidate_is))]
+    pub fn store_collated(
+        &mut self,
+        candidate: BlockCandidate,
+    ) -> Result<BlockCacheStoreResult, Refusal>
+        ensures { unlent_outcome self.new (store_says result) ≡ call_on self.old (unlent (store_collated candidate)) }
+    {
+        self.check_sound()?;
+        check_candidate(candidate)?;
+        self.store_candidate(candidate)
     }
-    if let Err(refusal) = check_candidate(candidate) {
-        return nothing_stored(cache, Err(refusal));
-    }
-    store_candidate(cache, candidate)
 }
 
 // ===== the received store =====
 
-// A master that is not Synced becomes the range's end; on a mismatch the ids below its seqno are left.
-fn store_master_receipt(cache: Cache, received: ReceivedBlock) -> BlockCacheStoreResult
-    ensures { result ≡ store_master_receipt received cache }
-{
-    let store = cache
-        .masters
-        .store_received(cache.zerostate_mc_seqno, received);
-    let Some(mismatch) = stored_mismatch(store.answer) else {
-        return nothing_stored(cache, store.answer);
-    };
-    let seqno = received.block_id.seqno;
-    let left = ids_after(cache.data, mismatch, seqno);
-    let new = Cache {
-        masters: store.group,
-        data: MasterData {
-            range: moved_end(seqno, left.range),
-            ..left
-        },
-        ..cache
-    };
-    stored_in(new, store.answer)
-}
+impl Cache {
+    // A master that is not Synced becomes the range's end; on a mismatch the ids below its seqno are left.
+    #[tactic(auto, unfolding(crate::specs::arrays::Stores::store_master_receipt))]
+    fn store_master_receipt(
+        &mut self,
+        received: ReceivedBlock,
+    ) -> Result<BlockCacheStoreResult, Refusal>
+        ensures { record { answer = result; cache = self.new } ≡ store_master_receipt received self.old }
+    {
+        let store = self
+            .masters
+            .store_received(self.zerostate_mc_seqno, received)?;
+        if let StoreAnswer::Stored { block_mismatch, .. } = store.answer {
+            let seqno = received.block_id.seqno;
+            self.masters = store.group;
+            if block_mismatch {
+                self.data.drop_ids_from(seqno);
+            }
+            self.data.move_range_end(seqno);
+        }
+        Ok(self.store_result(store.answer))
+    }
 
-// A shard block that is not Synced: on a mismatch the ids below its reference seqno are left.
-fn store_shard_receipt(cache: Cache, received: ReceivedBlock) -> BlockCacheStoreResult
-    ensures { result ≡ store_shard_receipt received cache }
-{
-    let shard = received.block_id.shard;
-    let Some(held) = shard_held(&cache.shards, shard) else {
-        return nothing_stored(cache, Err(Refusal::NoRoom));
-    };
-    let store = held.store_received(cache.zerostate_mc_seqno, received);
-    let Some(mismatch) = stored_mismatch(store.answer) else {
-        return nothing_stored(cache, store.answer);
-    };
-    let put = ShardGroup {
-        shard,
-        group: store.group,
-    };
-    let new = Cache {
-        data: ids_after(cache.data, mismatch, received.ref_block_id.seqno),
-        shards: put_shard(&cache.shards, put),
-        ..cache
-    };
-    stored_in(new, store.answer)
-}
+    // A shard block that is not Synced: on a mismatch the ids below its reference seqno are left.
+    #[tactic(auto, unfolding(crate::specs::arrays::Stores::store_shard_receipt))]
+    fn store_shard_receipt(
+        &mut self,
+        received: ReceivedBlock,
+    ) -> Result<BlockCacheStoreResult, Refusal>
+        ensures { record { answer = result; cache = self.new } ≡ store_shard_receipt received self.old }
+    {
+        let shard = received.block_id.shard;
+        let held = shard_held(&self.shards, shard)?;
+        let store = held.store_received(self.zerostate_mc_seqno, received)?;
+        if let StoreAnswer::Stored { block_mismatch, .. } = store.answer {
+            let put = ShardGroup {
+                shard,
+                group: store.group,
+            };
+            if block_mismatch {
+                self.data.drop_ids_from(received.ref_block_id.seqno);
+            }
+            self.shards = put_shard(&self.shards, put);
+        }
+        Ok(self.store_result(store.answer))
+    }
 
-// Questions 5 to 8, and the store.
-fn store_receipt(cache: Cache, received: ReceivedBlock) -> BlockCacheStoreResult
-    ensures { result ≡ store_receipt received cache }
-{
-    if received.ref_block_id.seqno < cache.zerostate_mc_seqno {
-        return nothing_stored(cache, Err(Refusal::BeforeZerostate));
+    // Questions 5 to 8, and the store.
+    #[tactic(auto, unfolding(crate::specs::arrays::Stores::store_receipt))]
+    fn store_receipt(&mut self, received: ReceivedBlock) -> Result<BlockCacheStoreResult, Refusal>
+        ensures { record { answer = result; cache = self.new } ≡ store_receipt received self.old }
+    {
+        if received.ref_block_id.seqno < self.zerostate_mc_seqno {
+            return Err(Refusal::BeforeZerostate);
+        }
+        if !received.block_id.shard.is_masterchain() {
+            return self.store_shard_receipt(received);
+        }
+        if received.block_id != received.ref_block_id {
+            return Err(Refusal::ForeignReference);
+        }
+        self.store_master_receipt(received)
     }
-    if !received.block_id.shard.is_masterchain() {
-        return store_shard_receipt(cache, received);
-    }
-    if received.block_id != received.ref_block_id {
-        return nothing_stored(cache, Err(Refusal::ForeignReference));
-    }
-    store_master_receipt(cache, received)
-}
 
-// Question 1, then the record's own, then the rest. Synced or refused, the cache is as it was.
-pub fn store_received(cache: Cache, received: ReceivedBlock) -> BlockCacheStoreResult
-    ensures { (store_outcome result ≡ call_on cache (unlent (store_received received))) × (result ≡ zeroed_store result) }
-{
-    if !sound_cache(cache) {
-        return nothing_stored(cache, Err(Refusal::Unsound));
+    // Question 1, then the record's own, then the rest. Synced or refused, the cache is as it was.
+    #[tactic(auto, using(crate::proofs::layout::AskedLaws::unsound_refused, crate::proofs::arrays::ReceivedStoreLaws::receipt_refused, crate::proofs::arrays::ReceivedStoreLaws::receipt_is))]
+    pub fn store_received(
+        &mut self,
+        received: ReceivedBlock,
+    ) -> Result<BlockCacheStoreResult, Refusal>
+        ensures { unlent_outcome self.new (store_says result) ≡ call_on self.old (unlent (store_received received)) }
+    {
+        self.check_sound()?;
+        check_received(received)?;
+        self.store_receipt(received)
     }
-    if let Err(refusal) = check_received(received) {
-        return nothing_stored(cache, Err(refusal));
-    }
-    store_receipt(cache, received)
 }

@@ -1,26 +1,29 @@
 // RULES.md, Tail ids: the walk, and the rows that come of it.
 ghost use Rattle.std.specs.List.{fold, list_any};
-ghost use Rattle.std.specs.Prelude.{true, ◌≡◌, [], ◌++◌, ◌∷◌, map, not};
+ghost use Rattle.std.specs.Prelude.{true, ◌≡◌, [], ◌++◌, ◌∷◌, ◌≤◌, length, map, not, slice_get};
+ghost use Rattle.block_records.specs.arrays.Place.{IsWithin};
 ghost use Rattle.block_records.specs.layout.Entry.{pack_prev_ids};
+ghost use Rattle.block_records.specs.layout.Listed.{listed};
 ghost use Rattle.block_records.specs.rules.BlockId.{listed_prev_ids, listed_tops, same_id};
-ghost use Rattle.blocks_cache.specs.arrays.Lookup.{cached_block, shard_seqnos};
-ghost use Rattle.blocks_cache.specs.arrays.Shards.{shard_ident};
-ghost use Rattle.blocks_cache.specs.arrays.TailIds.{IsQueue, block_tails, cached_row, fingerprint, first_state, fresh_ids, has_number, hold_row, missing_row, no_tails, pack_queue, pack_walk, queue_ids, read_tails, replaces_last, row_place, tail_outcome, take_queued, take_tail_id, walk_state, with_rows, zero_tail, zeroed_tails};
-ghost use Rattle.blocks_cache.specs.layout.Cache.{call_on, sound_cache};
+ghost use Rattle.block_records.specs.rules.Limits.{queued_limit};
+ghost use Rattle.blocks_cache.specs.arrays.TailIds.{block_tails, cached_row, first_state, fresh_ids, has_number, hold_row, missing_row, read_tails, replaces_last, row_place, tails_say, take_queued, take_tail_id, with_rows, zero_tail, zeroed_tails};
+ghost use Rattle.blocks_cache.specs.arrays.TailQueue.{fingerprint};
+ghost use Rattle.blocks_cache.specs.layout.Cache.{call_on, unlent_outcome};
 ghost use Rattle.cache_rules.specs.Calls.{read_tail_ids, unlent};
 ghost use Rattle.cache_rules.specs.Extraction.{top_id};
 ghost use Rattle.cache_rules.specs.TailIdsOnce.{knows};
 
 use crate::cache::Cache;
-use crate::lookup::{GroupSeqnos, block_place, shard_idents, shard_seqnos};
-use crate::soundness::sound_cache;
+use crate::lookup::Lookup;
+use crate::questions::{SoundCache, check_seqno};
 use block_records::block_id::{BlockId, BlockIdShort, ShardIdent, zero_id, zero_shard};
-use block_records::entry::{BlockCacheEntry, MasterBlock};
+use block_records::entry::MasterBlock;
 use block_records::limits::{QUEUED_FULL, QUEUED_LIMIT, QUEUED_PLACES, ROWS_LIMIT};
 use block_records::listed::{Listed, place_by};
-use block_records::questions::{Refusal, key_fits};
+use block_records::questions::Refusal;
 use block_records::store_records::{PrevIds, stored_prev_ids, zero_prev_ids};
 use block_records::top_block::TopBlocks;
+use std::marker::Model;
 
 // Of a shard: an id or none, and previous ids.
 #[derive(Clone, Copy, Debug, PartialEq, Eq)]
@@ -34,25 +37,19 @@ pub struct TailIdsRow {
 pub type TailRows = Listed<TailIdsRow, ROWS_LIMIT>;
 
 // The ids that were queued, each once, with their fingerprints: at most 256. With two places more, two are always written, and no test tells how many.
-#[derive(Clone, Copy, Debug)]
+// Two arrays, since numbers in a row are compared several at once (measured, see `has_number`).
+#[derive(Drop)]
 pub(crate) struct TailQueue {
-    pub ids: [BlockId; QUEUED_PLACES],
-    pub fingerprints: [u64; QUEUED_PLACES],
-    pub count: usize,
+    ids: [BlockId; QUEUED_PLACES],
+    fingerprints: [u64; QUEUED_PLACES],
+    count: usize,
 }
 
 // The rows and the queue, between the two loops.
-#[derive(Clone, Copy, Debug)]
+#[derive(Drop)]
 pub(crate) struct TailWalk {
     pub tails: TailRows,
     pub queue: TailQueue,
-}
-
-// The rows, zeros in the places that are left; none beside a refusal.
-#[derive(Clone, Copy, Debug, PartialEq, Eq)]
-pub struct TailIds {
-    pub answer: Result<(), Refusal>,
-    pub tails: TailRows,
 }
 
 // ===== the rows =====
@@ -70,7 +67,8 @@ fn zero_tail() -> TailIdsRow
 
 // Where a shard's row stands, or the place where it would go in.
 fn row_place(tails: &TailRows, shard: ShardIdent) -> Result<usize, usize>
-    ensures { result ≡ row_place shard tails.now }
+    ensures place { result ≡ row_place shard tails.now }
+    ensures within { IsWithin (length (listed tails.now)) result }
 {
     place_by(tails.listed(), |row| row.shard.cmp(&shard))
 }
@@ -84,6 +82,7 @@ fn replaces_last(id: Option<BlockId>, held: Option<BlockId>) -> bool
 
 // The row goes to its shard's place, if none is held there or its id takes the place of the one held. Where 17 are listed and none is of the shard,
 // nothing changes.
+#[tactic(auto, using(crate::proofs::arrays::TailRowLaws::held_rows))]
 fn hold_row(tails: &mut TailRows, row: TailIdsRow)
     ensures { tails.new ≡ hold_row row tails.old }
 {
@@ -117,6 +116,7 @@ fn cached_row(id: BlockId, prev_ids: PrevIds) -> TailIdsRow
 }
 
 // Of a top that is not cached: no id, and the top itself as the previous one.
+#[tactic(auto, unfolding(block_records::specs::rules::Lists::padded))]
 fn missing_row(id: BlockId) -> TailIdsRow
     ensures { result ≡ missing_row id }
 {
@@ -147,6 +147,7 @@ fn is_new(known: &[BlockId], fresh: &[BlockId], id: BlockId) -> bool
 }
 
 // Of the previous ids those that are not known yet, each once; none where 256 places would not hold them.
+#[tactic(auto, using(crate::proofs::arrays::TailRowLaws::fresh_ends))]
 fn fresh_ids(known: &[BlockId], prev: PrevIds) -> PrevIds
     ensures { result ≡ pack_prev_ids (fresh_ids known.now (listed_prev_ids prev)) }
 {
@@ -164,6 +165,7 @@ fn fresh_ids(known: &[BlockId], prev: PrevIds) -> PrevIds
 }
 
 // Ids that are the same have the same fingerprint.
+#[tactic(auto, unfolding(crate::specs::arrays::TailQueue::fingerprint))]
 fn fingerprint(id: BlockId) -> u64
     ensures { result ≡ fingerprint id }
 {
@@ -181,25 +183,24 @@ fn has_number(numbers: &[u64], number: u64) -> bool
     has
 }
 
-// The same as `fresh_ids`: most ids are known to be new by their fingerprints, so that none is compared.
-fn next_ids(known: &[BlockId], fingerprints: &[u64], prev: PrevIds) -> PrevIds
-    requires { fingerprints.now ≡ map fingerprint known.now }
-    ensures { result ≡ pack_prev_ids (fresh_ids known.now (listed_prev_ids prev)) }
-{
-    let first = fingerprint(prev.items[0]);
-    let second = fingerprint(prev.items[1]);
-    let a = has_number(fingerprints, first);
-    let b = has_number(fingerprints, second);
-    if a | b | (first == second) | (QUEUED_FULL < known.len()) {
-        return fresh_ids(known, prev);
-    }
-    stored_prev_ids(prev)
+// To contracts it is the list of its ids.
+impl Model for TailQueue {
+    ghost use Rattle.std.specs.Prelude.{List, take};
+    ghost use Rattle.block_records.specs.declared.block_id.BlockId.{BlockId};
+    ghost use Rattle.blocks_cache.specs.arrays.TailQueue.{IsQueue};
+
+    ghost Value = { List BlockId };
+
+    ghost view = { λ q. take q.count q.ids };
+
+    ghost invariant = { λ q. IsQueue q.ids q.fingerprints q.count };
 }
 
 impl TailQueue {
     // No id.
+    #[tactic(auto, using(crate::proofs::arrays::TailQueueLaws::no_ids))]
     fn empty() -> Self
-        ensures { result ≡ pack_queue [] }
+        ensures { result ≡ [] }
     {
         TailQueue {
             ids: [zero_id(); QUEUED_PLACES],
@@ -208,14 +209,38 @@ impl TailQueue {
         }
     }
 
-    // Of the previous ids those that are not known yet, at the end.
-    fn add(&mut self, prev: PrevIds)
-        requires { IsQueue self.old }
-        ensures ids { self.new ≡ pack_queue (queue_ids self.old ++ fresh_ids (queue_ids self.old) (listed_prev_ids prev)) }
-        ensures queue { IsQueue self.new }
+    // The id at a place, if one stands there; there are 256 at most.
+    fn get(&self, place: usize) -> Option<BlockId>
+        ensures id { result ≡ slice_get self.now place }
+        ensures few { length self.now ≤ queued_limit }
     {
+        self.ids[..self.count].get(place).copied()
+    }
+
+    // The same as `fresh_ids`: most ids are known to be new by their fingerprints, so that none is compared.
+    #[tactic(auto, using(crate::proofs::arrays::TailRowLaws::all_new, crate::proofs::arrays::TailQueueLaws::queue_prints))]
+    fn next_ids(&self, prev: PrevIds) -> PrevIds
+        ensures { result ≡ pack_prev_ids (fresh_ids self.now (listed_prev_ids prev)) }
+    {
+        let known = &self.ids[..self.count];
+        let fingerprints = &self.fingerprints[..self.count];
+        let first = fingerprint(prev.items[0]);
+        let second = fingerprint(prev.items[1]);
+        let a = has_number(fingerprints, first);
+        let b = has_number(fingerprints, second);
+        if a | b | (first == second) | (QUEUED_FULL < known.len()) {
+            return fresh_ids(known, prev);
+        }
+        stored_prev_ids(prev)
+    }
+
+    // Of the previous ids those that are not known yet, at the end.
+    #[tactic(auto, using(crate::proofs::arrays::TailQueueLaws::queue_added))]
+    fn add(&mut self, prev: PrevIds)
+        ensures { self.new ≡ self.old ++ fresh_ids self.old (listed_prev_ids prev) }
+    {
+        let fresh = self.next_ids(prev);
         let count = self.count;
-        let fresh = next_ids(&self.ids[..count], &self.fingerprints[..count], prev);
         self.ids[count] = fresh.items[0];
         self.ids[count + 1] = fresh.items[1];
         self.fingerprints[count] = fingerprint(fresh.items[0]);
@@ -233,125 +258,94 @@ fn one_row(row: TailIdsRow) -> TailRows
     Listed::empty(zero_tail()).spliced(0, 0, row, zero_tail())
 }
 
-// The block that is cached under an id's key, by the shards and seqnos that were gathered.
-fn cached_block(
-    cache: &Cache,
-    idents: &[ShardIdent],
-    seqnos: &[GroupSeqnos],
-    id: BlockId,
-) -> Option<BlockCacheEntry>
-    requires sound { sound_cache cache.now ≡ true }
-    requires idents { idents.now ≡ map shard_ident cache.now.shards.items }
-    requires seqnos { seqnos.now ≡ map shard_seqnos cache.now.shards.items }
-    ensures { result ≡ cached_block id cache.now }
-{
-    let (at, place) = block_place(idents, seqnos, id)?;
-    Some(cache.shards.items[at].group.entries.items[place])
-}
-
-// The tops one by one, after the master's own row; one of seqno 0 gives nothing.
-fn take_tops(cache: &Cache, mc_seqno: u32, first: TailIdsRow, tops: &TopBlocks) -> TailWalk
-    requires { sound_cache cache.now ≡ true }
-    ensures walk { result ≡ pack_walk (fold (take_tail_id cache.now mc_seqno true) (first_state first) (map top_id (listed_tops tops.now))) }
-    ensures queue { IsQueue result.queue }
-{
-    let idents = shard_idents(&cache.shards);
-    let seqnos = shard_seqnos(&cache.shards);
-    let mut tails = one_row(first);
-    let mut queue = TailQueue::empty();
-    for top in tops.listed() {
-        let id = top.block_id;
-        if id.seqno == 0 {
-            continue;
+impl Lookup<'_> {
+    // The tops one by one, after the master's own row; one of seqno 0 gives nothing.
+    #[tactic(auto, using(crate::proofs::arrays::TailWalkLaws::top_zero))]
+    fn take_tops(&self, mc_seqno: u32, first: TailIdsRow, tops: &TopBlocks) -> TailWalk
+        ensures { result ≡ fold (take_tail_id self.now.cache.now mc_seqno true) (first_state first) (map top_id (listed_tops tops.now)) }
+    {
+        let mut tails = one_row(first);
+        let mut queue = TailQueue::empty();
+        for top in tops.listed() {
+            let id = top.block_id;
+            if id.seqno == 0 {
+                continue;
+            }
+            match self.cached_block(id) {
+                Some(block) => {
+                    hold_row(&mut tails, cached_row(id, block.prev_ids));
+                    queue.add(block.prev_ids);
+                }
+                None => hold_row(&mut tails, missing_row(id)),
+            }
         }
-        match cached_block(cache, &idents, &seqnos, id) {
-            Some(block) => {
+        TailWalk { tails, queue }
+    }
+
+    // Then each id of the queue from its front. A cached block that names the master gives its row.
+    #[tactic(auto, using(crate::proofs::arrays::TailWalkLaws::queue_turns))]
+    fn take_queued(&self, mc_seqno: u32, walk: TailWalk) -> TailRows
+        ensures { result ≡ (take_queued 256 self.now.cache.now mc_seqno 0 walk).tails }
+    {
+        let TailWalk {
+            mut tails,
+            mut queue,
+        } = walk;
+        // An index, since the queue grows while it is read.
+        let mut j = 0;
+        while let Some(id) = queue.get(j) {
+            j += 1;
+            if id.seqno == 0 {
+                continue;
+            }
+            let Some(block) = self.cached_block(id) else {
+                continue;
+            };
+            if block.ref_by_mc_seqno == mc_seqno {
                 hold_row(&mut tails, cached_row(id, block.prev_ids));
                 queue.add(block.prev_ids);
             }
-            None => hold_row(&mut tails, missing_row(id)),
         }
+        tails
     }
-    TailWalk { tails, queue }
-}
 
-// Then each id of the queue from its front. A cached block that names the master gives its row.
-fn take_queued(cache: &Cache, mc_seqno: u32, walk: TailWalk) -> TailRows
-    requires sound { sound_cache cache.now ≡ true }
-    requires queue { IsQueue walk.queue }
-    ensures { result ≡ (take_queued 256 cache.now mc_seqno 0 (walk_state walk)).tails }
-{
-    let idents = shard_idents(&cache.shards);
-    let seqnos = shard_seqnos(&cache.shards);
-    let mut tails = walk.tails;
-    let mut queue = walk.queue;
-    // An index, since the queue grows while it is read.
-    let mut j = 0;
-    while j < queue.count {
-        let id = queue.ids[j];
-        j += 1;
-        if id.seqno == 0 {
-            continue;
-        }
-        let Some(block) = cached_block(cache, &idents, &seqnos, id) else {
-            continue;
-        };
-        if block.ref_by_mc_seqno == mc_seqno {
-            hold_row(&mut tails, cached_row(id, block.prev_ids));
-            queue.add(block.prev_ids);
-        }
+    // The rows of a master block.
+    #[tactic(auto, using(crate::proofs::arrays::TailWalkLaws::tails_walked))]
+    fn block_tails(&self, block: &MasterBlock) -> TailRows
+        ensures { result ≡ block_tails block.now self.now.cache.now }
+    {
+        let id = block.entry.block_id;
+        let first = cached_row(id, block.entry.prev_ids);
+        let walk = self.take_tops(id.seqno, first, &block.tops);
+        self.take_queued(id.seqno, walk)
     }
-    tails
-}
-
-// The rows of a master block.
-fn block_tails(cache: &Cache, block: &MasterBlock) -> TailRows
-    requires { sound_cache cache.now ≡ true }
-    ensures { result ≡ block_tails block.now cache.now }
-{
-    let id = block.entry.block_id;
-    let first = cached_row(id, block.entry.prev_ids);
-    let walk = take_tops(cache, id.seqno, first, &block.tops);
-    take_queued(cache, id.seqno, walk)
 }
 
 // ===== the answer =====
 
-// An answer with no row beside it.
-fn no_tails(answer: Result<(), Refusal>) -> TailIds
-    ensures { result ≡ no_tails answer }
-{
-    TailIds {
-        answer,
-        tails: Listed::empty(zero_tail()),
+impl SoundCache<'_> {
+    // No row up to the zerostate's seqno; above it the rows of the master at the seqno.
+    #[tactic(auto, using(crate::proofs::arrays::TailWalkLaws::tails_read))]
+    fn read_tails(self, seqno: u32) -> Result<TailRows, Refusal>
+        ensures { result ≡ read_tails seqno self.entry.cache.now }
+    {
+        if seqno <= self.cache.zerostate_mc_seqno {
+            return Ok(Listed::empty(zero_tail()));
+        }
+        let block = self.cache.masters.at(seqno).ok_or(Refusal::NoMaster)?;
+        Ok(self.lookup().block_tails(&block))
     }
 }
 
-// No row up to the zerostate's seqno; above it the rows of the master at the seqno.
-fn read_tails(cache: &Cache, seqno: u32) -> TailIds
-    requires { sound_cache cache.now ≡ true }
-    ensures { result ≡ read_tails seqno cache.now }
-{
-    if seqno <= cache.zerostate_mc_seqno {
-        return no_tails(Ok(()));
+impl Cache {
+    // The rows of the master block of a key, zeros in the places that are left.
+    #[tactic(auto, using(crate::proofs::arrays::TailIdsLaws::tail_calls))]
+    pub fn read_before_tail_ids_of_mc_block(&self, short: BlockIdShort) -> Result<TailRows, Refusal>
+        ensures call { unlent_outcome self.now (tails_say result) ≡ call_on self.now (unlent (read_tail_ids short)) }
+        ensures zeros { result ≡ zeroed_tails result }
+    {
+        let sound = self.sound()?;
+        check_seqno(short.seqno)?;
+        sound.read_tails(short.seqno)
     }
-    let Some(block) = cache.masters.at(seqno) else {
-        return no_tails(Err(Refusal::NoMaster));
-    };
-    TailIds {
-        answer: Ok(()),
-        tails: block_tails(cache, &block),
-    }
-}
-
-pub fn read_before_tail_ids_of_mc_block(cache: Cache, short: BlockIdShort) -> TailIds
-    ensures { (tail_outcome cache result ≡ call_on cache (unlent (read_tail_ids short))) × (result ≡ zeroed_tails result) }
-{
-    if !sound_cache(cache) {
-        return no_tails(Err(Refusal::Unsound));
-    }
-    if !key_fits(short) {
-        return no_tails(Err(Refusal::SeqnoLimit));
-    }
-    read_tails(&cache, short.seqno)
 }

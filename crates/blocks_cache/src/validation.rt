@@ -1,12 +1,11 @@
 // RULES.md, Validation: the outcome of a validation brought to the master at its seqno.
 ghost use Rattle.std.specs.Prelude.{◌≡◌};
-ghost use Rattle.blocks_cache.specs.arrays.Validation.{validate_master, validation_outcome, view_validation};
-ghost use Rattle.blocks_cache.specs.layout.Cache.{call_on};
+ghost use Rattle.blocks_cache.specs.arrays.Validation.{validate_master, validation_says, view_validation};
+ghost use Rattle.blocks_cache.specs.layout.Cache.{call_on, unlent_outcome};
 ghost use Rattle.cache_rules.specs.Calls.{store_validation, unlent};
 ghost use Rattle.cache_rules.specs.Effects.{result_handle, result_status, result_weight, validated_kind};
 
 use crate::cache::Cache;
-use crate::soundness::sound_cache;
 use block_records::block_id::BlockId;
 use block_records::entry::{BlockCacheEntryData, CandidateStatus};
 use block_records::questions::{Refusal, id_fits};
@@ -24,12 +23,6 @@ pub enum ValidationStatus {
 pub enum ValidationAnswer {
     Updated(CandidateStatus),
     NoChange,
-}
-
-#[derive(Clone, Copy, Debug, PartialEq, Eq)]
-pub struct ValidationResult {
-    pub answer: Result<ValidationAnswer, Refusal>,
-    pub cache: Cache,
 }
 
 fn result_status(status: ValidationStatus) -> CandidateStatus
@@ -88,48 +81,35 @@ fn validated_kind(
     })
 }
 
-// The master is looked up by the id's seqno alone.
-fn validate_master(cache: Cache, seqno: u32, status: ValidationStatus) -> ValidationResult
-    ensures { result ≡ validate_master seqno (view_validation status) cache }
-{
-    let unchanged = ValidationResult {
-        answer: Ok(ValidationAnswer::NoChange),
-        cache,
-    };
-    let Some(block) = cache.masters.at(seqno) else {
-        return unchanged;
-    };
-    let Some(kind) = validated_kind(status, block.entry.data) else {
-        return unchanged;
-    };
-    ValidationResult {
-        answer: Ok(ValidationAnswer::Updated(result_status(status))),
-        cache: Cache {
-            masters: cache.masters.put(block.with_data(kind)),
-            ..cache
-        },
+impl Cache {
+    // The master is looked up by the id's seqno alone.
+    #[tactic(auto, unfolding(crate::specs::arrays::Validation::validate_master))]
+    fn validate_master(&mut self, seqno: u32, status: ValidationStatus) -> ValidationAnswer
+        ensures { record { answer = result; cache = self.new } ≡ validate_master seqno (view_validation status) self.old }
+    {
+        let Some(block) = self.masters.at(seqno) else {
+            return ValidationAnswer::NoChange;
+        };
+        let Some(kind) = validated_kind(status, block.entry.data) else {
+            return ValidationAnswer::NoChange;
+        };
+        self.masters = self.masters.put(block.with_data(kind));
+        ValidationAnswer::Updated(result_status(status))
     }
-}
 
-// The result of a master block's validation, by its seqno.
-pub fn store_master_block_validation_result(
-    cache: Cache,
-    block_id: BlockId,
-    status: ValidationStatus,
-) -> ValidationResult
-    ensures { validation_outcome result ≡ call_on cache (unlent (store_validation block_id (view_validation status))) }
-{
-    if !sound_cache(cache) {
-        return ValidationResult {
-            answer: Err(Refusal::Unsound),
-            cache,
-        };
+    // The result of a master block's validation, by its seqno.
+    #[tactic(auto, using(crate::proofs::layout::AskedLaws::unsound_refused, crate::proofs::arrays::ValidationLaws::validation_refuses, crate::proofs::arrays::ValidationLaws::validation_is))]
+    pub fn store_master_block_validation_result(
+        &mut self,
+        block_id: BlockId,
+        status: ValidationStatus,
+    ) -> Result<ValidationAnswer, Refusal>
+        ensures { unlent_outcome self.new (validation_says result) ≡ call_on self.old (unlent (store_validation block_id (view_validation status))) }
+    {
+        self.check_sound()?;
+        if !id_fits(block_id) {
+            return Err(Refusal::SeqnoLimit);
+        }
+        Ok(self.validate_master(block_id.seqno, status))
     }
-    if !id_fits(block_id) {
-        return ValidationResult {
-            answer: Err(Refusal::SeqnoLimit),
-            cache,
-        };
-    }
-    validate_master(cache, block_id.seqno, status)
 }

@@ -4,3 +4,4 @@ pub mod GroupLaws
 pub mod SoundnessLaws
 pub mod QueryLaws
 pub mod StoreLaws
+pub mod SoundStepLaws

@@ -57,10 +57,12 @@ impl Block for BlockCacheEntry {
         with_data(self, data)
     }
 
+    #[tactic(auto, using(crate::proofs::layout::BlockLaws::shard_zero))]
     fn is_zero(&self) -> bool {
         is_zero_entry(*self)
     }
 
+    #[tactic(auto, using(crate::proofs::layout::BlockLaws::shard_fits))]
     fn fits(&self) -> bool {
         entry_tidy(*self) && held_shard_entry_fits(*self)
     }
@@ -86,6 +88,7 @@ impl Block for MasterBlock {
         }
     }
 
+    // Part by part, as the definition has it for both types.
     fn is_zero(&self) -> bool {
         is_zero_entry(self.entry) && is_zero_tops(self.tops)
     }

@@ -1,6 +1,6 @@
 // RULES.md, Groups: the blocks of a shard or of the masterchain by seqno, in 16 places.
 ghost use Rattle.std.specs.Prelude.{◌≡◌};
-ghost use Rattle.blocks_group.specs.arrays.Group.{block_at, put_block, refresh_group, without_block, set_boundary};
+ghost use Rattle.blocks_group.specs.arrays.Group.{block_at, put_block, refresh_group, without_block};
 ghost use Rattle.blocks_group.specs.layout.Group.{check_mark, held_empty_group};
 
 use crate::block::{Block, zero_block};
@@ -26,6 +26,7 @@ pub type MasterGroup = Group<MasterBlock>;
 
 impl<B: Block> Group<B> {
     // No block, mark or boundary.
+    #[tactic(auto, unfolding(crate::specs::layout::Group::held_empty_group))]
     pub fn empty() -> Self
         ensures { result ≡ held_empty_group B.parts }
     {
@@ -74,16 +75,6 @@ impl<B: Block> Group<B> {
 }
 
 impl<B: Copy> Group<B> {
-    // The boundary becomes the key.
-    pub fn with_boundary(&self, key: BlockIdShort) -> Self
-        ensures { result ≡ set_boundary key self.now }
-    {
-        Group {
-            boundary: Some(key),
-            ..*self
-        }
-    }
-
     // The mark raised to a seqno.
     pub fn refreshed(&self, seqno: u32) -> Self
         ensures { result ≡ refresh_group seqno self.now }

@@ -15,10 +15,7 @@ pub struct CheckedMark {
 pub(crate) fn known_synced(seqno: u32, mark: Option<u32>) -> bool
     ensures { result ≡ known_synced seqno mark }
 {
-    match mark {
-        None => false,
-        Some(known) => seqno <= known,
-    }
+    mark.is_some_and(|known| seqno <= known)
 }
 
 // The mark after the mark's rule.
@@ -26,14 +23,8 @@ pub fn refreshed_mark(seqno: u32, mark: Option<u32>) -> Option<u32>
     ensures { result ≡ refreshed_mark seqno mark }
 {
     match mark {
-        None => Some(seqno),
-        Some(known) => {
-            if seqno <= known {
-                Some(known)
-            } else {
-                Some(seqno)
-            }
-        }
+        Some(known) if seqno <= known => mark,
+        _ => Some(seqno),
     }
 }
 
@@ -41,17 +32,15 @@ pub fn refreshed_mark(seqno: u32, mark: Option<u32>) -> Option<u32>
 fn given_mark(seqno: u32, mark: Option<u32>) -> Option<u32>
     ensures { result ≡ given_mark seqno mark }
 {
-    match mark {
-        None => None,
-        Some(held) => { if seqno <= held { Some(held) } else { None } }
-    }
+    mark.filter(|known| seqno <= *known)
 }
 
 // The mark's rule whole, from mark to mark.
 pub(crate) fn check_mark(mark: Option<u32>, seqno: u32) -> CheckedMark
     ensures { result ≡ check_mark seqno mark }
 {
-    let given = given_mark(seqno, mark);
-    let after = refreshed_mark(seqno, mark);
-    CheckedMark { given, mark: after }
+    CheckedMark {
+        given: given_mark(seqno, mark),
+        mark: refreshed_mark(seqno, mark),
+    }
 }

@@ -1,21 +1,10 @@
 // RULES.md, Pop, Peek, Boundary and collection and Removal of collated blocks: what they ask of one group.
-ghost use Rattle.std.specs.Prelude.{◌≡◌, Bool, ℕ};
-ghost use Rattle.blocks_group.specs.arrays.Queries.{any_applied_above, chosen, chosen_of, collect_group, first_applied_block, highest_below_boundary, lowest_collated_above, remove_collated_above, seqnos_of};
+ghost use Rattle.std.specs.Prelude.{◌≡◌};
+ghost use Rattle.blocks_group.specs.arrays.Queries.{any_applied_above, collect_group, first_applied_block, highest_below_boundary, lowest_collated_above, remove_collated_above};
 
 use crate::block::{Block, zero_block};
 use crate::group::Group;
 use block_records::entry::{held_applied, held_received};
-
-// The choice between a seqno and the one so far.
-fn chosen<C: Fn(u32, u32) -> u32>(choice: &C, best: Option<u32>, seqno: u32) -> Option<u32>
-    requires { C.IsAlwaysCallable choice.now }
-    ensures { (c : ℕ → ℕ → ℕ) → ((m n r : ℕ) → C.post choice.now m n r → r ≡ c m n) → result ≡ chosen c best seqno }
-{
-    match best {
-        None => Some(seqno),
-        Some(known) => Some(choice(known, seqno)),
-    }
-}
 
 impl<B: Block> Group<B> {
     // The first applied block from a seqno on.
@@ -37,36 +26,20 @@ impl<B: Block> Group<B> {
             && held_applied(*block.entry()))
     }
 
-    // The seqno that a choice between two leaves, of the blocks that pass.
-    fn chosen_seqno<P: Fn(&B) -> bool, C: Fn(u32, u32) -> u32>(
-        &self,
-        passes: P,
-        choice: C,
-    ) -> Option<u32>
-        requires test { P.IsAlwaysCallable passes }
-        requires choice { C.IsAlwaysCallable choice }
-        ensures { (p : B → Bool) → ((x : _) (b : Bool) → P.post passes x b → b ≡ p x.now) → (c : ℕ → ℕ → ℕ) → ((m n r : ℕ) → C.post choice m n r → r ≡ c m n) → result ≡ chosen_of c (seqnos_of B.parts p self.now) }
-    {
-        let mut best = None;
-        for block in self.entries.listed() {
-            if passes(block) {
-                best = chosen(&choice, best, block.seqno());
-            }
-        }
-        best
-    }
-
     // ===== collect =====
 
     // The highest seqno of the blocks that collect removes.
+    #[tactic(auto, using(crate::proofs::arrays::QueryLaws::none_below))]
     pub fn highest_below_boundary(&self) -> Option<u32>
         ensures { result ≡ highest_below_boundary B.parts self.now }
     {
         let key = self.boundary?;
-        self.chosen_seqno(
-            |block| block.seqno() < key.seqno,
-            |a, b| if a < b { b } else { a },
-        )
+        self.entries
+            .listed()
+            .iter()
+            .filter(|block| block.seqno() < key.seqno)
+            .map(|block| block.seqno())
+            .max()
     }
 
     // Without the blocks below the boundary.
@@ -90,10 +63,12 @@ impl<B: Block> Group<B> {
     pub fn lowest_collated_above(&self, seqno: u32) -> Option<u32>
         ensures { result ≡ lowest_collated_above B.parts seqno self.now }
     {
-        self.chosen_seqno(
-            |block| seqno < block.seqno() && !held_received(*block.entry()),
-            |a, b| if b < a { b } else { a },
-        )
+        self.entries
+            .listed()
+            .iter()
+            .filter(|block| seqno < block.seqno() && !held_received(*block.entry()))
+            .map(|block| block.seqno())
+            .min()
     }
 
     // Without the blocks above a seqno that are not Received.

@@ -4,21 +4,13 @@ ghost use Rattle.std.specs.Prelude.{◌≡◌, Bool};
 ghost use Rattle.block_records.specs.declared.block_id.ShardIdent.{ShardIdent as Shard};
 ghost use Rattle.block_records.specs.rules.Lists.{rising};
 ghost use Rattle.blocks_group.specs.arrays.Soundness.{sound_block};
-ghost use Rattle.blocks_group.specs.layout.Block.{block_before, is_zero_block};
+ghost use Rattle.blocks_group.specs.layout.Block.{block_before};
 ghost use Rattle.blocks_group.specs.layout.Group.{is_empty_group, sound_group};
 ghost use Rattle.blocks_group.specs.rules.Soundness.{boundary_in};
 
 use crate::block::Block;
 use crate::group::Group;
 use block_records::block_id::{BlockIdShort, ShardIdent};
-use block_records::limits::ENTRIES_LIMIT;
-
-// Whether all blocks are zeros, as in unused places.
-fn all_zero<B: Block>(blocks: &[B]) -> bool
-    ensures { result ≡ list_all (is_zero_block B.parts) blocks.now }
-{
-    blocks.iter().all(|block| block.is_zero())
-}
 
 // Whether each block's seqno is above that of the one before it.
 fn seqnos_rise<B: Block>(blocks: &[B]) -> bool
@@ -41,12 +33,7 @@ fn sound_blocks<B: Block, F: Fn(ShardIdent) -> bool>(blocks: &[B], is_for: &F) -
     requires { F.IsAlwaysCallable is_for.now }
     ensures { (p : Shard → Bool) → ((s : Shard) (b : Bool) → F.post is_for.now s b → b ≡ p s) → result ≡ list_all (sound_block B.parts p) blocks.now }
 {
-    for block in blocks {
-        if !sound_block(block, is_for) {
-            return false;
-        }
-    }
-    true
+    blocks.iter().all(|block| sound_block(block, is_for))
 }
 
 // Whether there is no boundary, or one of a shard that the group is for.
@@ -54,10 +41,7 @@ fn boundary_in<F: Fn(ShardIdent) -> bool>(boundary: Option<BlockIdShort>, is_for
     requires { F.IsAlwaysCallable is_for.now }
     ensures { (p : Shard → Bool) → ((s : Shard) (b : Bool) → F.post is_for.now s b → b ≡ p s) → result ≡ boundary_in p boundary }
 {
-    match boundary {
-        None => true,
-        Some(key) => is_for(key.shard),
-    }
+    boundary.is_none_or(|key| is_for(key.shard))
 }
 
 impl<B: Block> Group<B> {
@@ -68,7 +52,8 @@ impl<B: Block> Group<B> {
         let mark = self.mark.is_none();
         let boundary = self.boundary.is_none();
         let count = self.entries.count == 0;
-        mark & (boundary & (count & all_zero(&self.entries.items)))
+        let zeros = self.entries.is_tidy(|block| block.is_zero());
+        mark & (boundary & (count & zeros))
     }
 
     // Question 1 of a group, by the test of the shards that it is for.
@@ -77,11 +62,10 @@ impl<B: Block> Group<B> {
         ensures { (p : Shard → Bool) → ((s : Shard) (b : Bool) → F.post is_for s b → b ≡ p s) → result ≡ sound_group B.parts p self.now }
     {
         let blocks = self.entries.listed();
-        let few = self.entries.count <= ENTRIES_LIMIT;
+        let tidy = self.entries.is_tidy(|block| block.is_zero());
         let sound = sound_blocks(blocks, &is_for);
         let rise = seqnos_rise(blocks);
-        let zeros = all_zero(self.entries.unlisted());
         let bound = boundary_in(self.boundary, &is_for);
-        few & (sound & (rise & (zeros & bound)))
+        tidy & (sound & (rise & bound))
     }
 }

@@ -1,6 +1,7 @@
 // RULES.md, Collated store and Received store: the two stores of one group.
 ghost use Rattle.std.specs.Prelude.{◌≡◌};
-ghost use Rattle.blocks_group.specs.arrays.Store.{collated_step, received_step, refused_step, stored_step, collated_store, received_store};
+ghost use Rattle.blocks_group.specs.arrays.Group.{block_at};
+ghost use Rattle.blocks_group.specs.arrays.Store.{collated_step, fresh_step, has_place, received_step, stored_step, collated_store, received_store};
 ghost use Rattle.blocks_group.specs.rules.Group.{collated_kind, received_kind};
 
 use crate::block::Block;
@@ -13,6 +14,7 @@ use block_records::questions::Refusal;
 use block_records::store_records::{BlockCandidate, ReceivedBlock};
 use block_records::top_block::stored_tops;
 
+// An Option would be no plainer: Synced is an answer with a name of its own.
 #[derive(Clone, Copy, Debug, PartialEq, Eq)]
 pub enum StoreAnswer {
     Stored {
@@ -22,30 +24,21 @@ pub enum StoreAnswer {
     Synced,
 }
 
-// A store's answer, and the group after it.
+// What a store that is not refused answers, and the group after it.
 #[derive(Clone, Copy)]
 pub struct GroupStore<B> {
-    pub answer: Result<StoreAnswer, Refusal>,
+    pub answer: StoreAnswer,
     pub group: Group<B>,
 }
 
-// What a store answers, and the block that it puts at its seqno, if it changes anything.
+// The same, and the block that it puts at its seqno, if it changes anything.
 #[derive(Clone, Copy)]
 pub(crate) struct StoreStep<B> {
-    pub answer: Result<StoreAnswer, Refusal>,
+    pub answer: StoreAnswer,
     pub change: Option<B>,
 }
 
 // ===== the steps =====
-
-fn refused_step<B: Copy>(refusal: Refusal) -> StoreStep<B>
-    ensures { result ≡ refused_step refusal }
-{
-    StoreStep {
-        answer: Err(refusal),
-        change: None,
-    }
-}
 
 fn stored_step<B: Copy>(both: bool, mismatch: bool, change: Option<B>) -> StoreStep<B>
     ensures { result ≡ stored_step both mismatch change }
@@ -54,10 +47,7 @@ fn stored_step<B: Copy>(both: bool, mismatch: bool, change: Option<B>) -> StoreS
         received_and_collated: both,
         block_mismatch: mismatch,
     };
-    StoreStep {
-        answer: Ok(answer),
-        change,
-    }
+    StoreStep { answer, change }
 }
 
 // The kind once the block is collated too; a shard block keeps the candidate's processed-to anchor in it.
@@ -104,96 +94,95 @@ fn received_kind(data: BlockCacheEntryData) -> BlockCacheEntryData
     }
 }
 
-// The collated store, by whether the group has a place left and what stands at the candidate's seqno.
-fn collated_step<B: Block>(c: BlockCandidate, room: bool, found: Option<B>) -> StoreStep<B>
-    ensures { result ≡ collated_step B.parts c room found }
-{
-    let Some(block) = found else {
-        if room {
-            let fresh = B::of(fresh_collated(c), stored_tops(c.top_blocks));
-            return stored_step(false, false, Some(fresh));
+impl<B: Block> Group<B> {
+    // A fresh block, where there is a place left.
+    fn fresh_step(&self, fresh: B) -> Result<StoreStep<B>, Refusal>
+        ensures { result ≡ fresh_step (has_place self.now) fresh }
+    {
+        if !self.entries.has_place() {
+            return Err(Refusal::NoRoom);
         }
-        return refused_step(Refusal::NoRoom);
-    };
-    let entry = block.entry();
-    if !held_received(*entry) {
-        return refused_step(Refusal::AlreadyStored);
+        Ok(stored_step(false, false, Some(fresh)))
     }
-    if entry.block_id != c.block_id {
-        return stored_step(false, true, None);
-    }
-    let both = block.with_data(collated_kind(c, entry.data));
-    stored_step(true, false, Some(both))
-}
 
-// The received store of a block that is not synced, by the same two.
-fn received_step<B: Block>(
-    zerostate: u32,
-    r: ReceivedBlock,
-    room: bool,
-    found: Option<B>,
-) -> StoreStep<B>
-    ensures { result ≡ received_step B.parts zerostate r room found }
-{
-    let Some(block) = found else {
-        if room {
-            let fresh = B::of(fresh_received(zerostate, r), stored_tops(r.top_blocks));
-            return stored_step(false, false, Some(fresh));
+    // The collated store, by what stands at the candidate's seqno.
+    #[tactic(auto, unfolding(crate::specs::arrays::Store::collated_step))]
+    fn collated_step(&self, c: BlockCandidate) -> Result<StoreStep<B>, Refusal>
+        ensures { result ≡ collated_step B.parts c (has_place self.now) (block_at B.parts c.block_id.seqno self.now) }
+    {
+        let Some(block) = self.at(c.block_id.seqno) else {
+            return self.fresh_step(B::of(fresh_collated(c), stored_tops(c.top_blocks)));
+        };
+        let entry = block.entry();
+        if !held_received(*entry) {
+            return Err(Refusal::AlreadyStored);
         }
-        return refused_step(Refusal::NoRoom);
-    };
-    let entry = block.entry();
-    if held_received(*entry) {
-        return refused_step(Refusal::AlreadyStored);
+        if entry.block_id != c.block_id {
+            return Ok(stored_step(false, true, None));
+        }
+        let both = block.with_data(collated_kind(c, entry.data));
+        Ok(stored_step(true, false, Some(both)))
     }
-    if entry.block_id != r.block_id {
+
+    // The received store of a block that is not synced, by what stands at its seqno.
+    #[tactic(auto, unfolding(crate::specs::arrays::Store::received_step))]
+    fn received_step(&self, zerostate: u32, r: ReceivedBlock) -> Result<StoreStep<B>, Refusal>
+        ensures { result ≡ received_step B.parts zerostate r (has_place self.now) (block_at B.parts r.block_id.seqno self.now) }
+    {
         let fresh = B::of(fresh_received(zerostate, r), stored_tops(r.top_blocks));
-        return stored_step(false, true, Some(fresh));
+        let Some(block) = self.at(r.block_id.seqno) else {
+            return self.fresh_step(fresh);
+        };
+        let entry = block.entry();
+        if held_received(*entry) {
+            return Err(Refusal::AlreadyStored);
+        }
+        if entry.block_id != r.block_id {
+            return Ok(stored_step(false, true, Some(fresh)));
+        }
+        let synced = block.with_data(received_kind(entry.data));
+        Ok(stored_step(true, false, Some(synced)))
     }
-    let synced = block.with_data(received_kind(entry.data));
-    stored_step(true, false, Some(synced))
 }
 
 // ===== the stores =====
 
 impl<B: Block> Group<B> {
-    pub fn store_collated(&self, c: BlockCandidate) -> GroupStore<B>
+    #[tactic(auto, unfolding(crate::specs::arrays::Store::collated_store))]
+    pub fn store_collated(&self, c: BlockCandidate) -> Result<GroupStore<B>, Refusal>
         ensures { result ≡ collated_store B.parts c self.now }
     {
-        let found = self.at(c.block_id.seqno);
-        let room = self.entries.has_place();
-        let step = collated_step(c, room, found);
+        let step = self.collated_step(c)?;
         let group = match step.change {
             Some(block) => self.put(block),
             None => *self,
         };
-        GroupStore {
+        Ok(GroupStore {
             answer: step.answer,
             group,
-        }
+        })
     }
 
     // At or below the mark a block is Synced already.
-    pub fn store_received(&self, zerostate: u32, r: ReceivedBlock) -> GroupStore<B>
+    #[tactic(auto, unfolding(crate::specs::arrays::Store::received_store))]
+    pub fn store_received(&self, zerostate: u32, r: ReceivedBlock) -> Result<GroupStore<B>, Refusal>
         ensures { result ≡ received_store B.parts zerostate r self.now }
     {
         let seqno = r.block_id.seqno;
         if known_synced(seqno, self.mark) {
-            return GroupStore {
-                answer: Ok(StoreAnswer::Synced),
+            return Ok(GroupStore {
+                answer: StoreAnswer::Synced,
                 group: *self,
-            };
+            });
         }
-        let found = self.at(seqno);
-        let room = self.entries.has_place();
-        let step = received_step(zerostate, r, room, found);
+        let step = self.received_step(zerostate, r)?;
         let group = match step.change {
             Some(block) => self.put(block).refreshed(seqno),
             None => *self,
         };
-        GroupStore {
+        Ok(GroupStore {
             answer: step.answer,
             group,
-        }
+        })
     }
 }

@@ -17,7 +17,6 @@ use Rattle.block_records.specs.declared.block_id.BlockIdShort.{BlockIdShort}
 use Rattle.block_records.specs.declared.entry.BlockCacheEntry.{BlockCacheEntry}
 use Rattle.block_records.specs.declared.entry.BlockCacheEntryData.{BlockCacheEntryData}
 use Rattle.block_records.proofs.rules.Finds.{find_member}
-use Rattle.block_records.proofs.rules.ListLaws.{length_each}
 use Rattle.block_records.proofs.rules.Tests.{on, some_not_none}
 use Rattle.block_records.specs.layout.Entry.{pack_entry}
 use Rattle.block_records.specs.rules.BlockId.{key}
@@ -36,6 +35,7 @@ use Rattle.cache_rules.specs.Effects.{answered, at_front, do_store_received, eff
 use Rattle.cache_rules.specs.Extraction.{extraction_of, previous_in, starting_ids}
 use Rattle.cache_rules.specs.Model.{Model, ShardModel, applied_from, block_under, first_applied}
 use Rattle.cache_rules.specs.Refusals.{further, is_synced, questions, sound_model}
+use Rattle.std.proofs.lemmas.List.{length-map}
 
 -- ===== what a pop or a sync extraction hands out =====
 
@@ -53,7 +53,7 @@ module _ (m : Model) (M : Entry) (ok : sound_model m ≡ true) (was : Memᴰ M m
   n = length (extraction_of M m).joined
 
   out_length : length out ≡ n
-  out_length = length_each pack_entry (extraction_of M m).joined
+  out_length = length-map (extraction_of M m).joined pack_entry
 
   front : take n (at_front out lent) ≡ out
   front = take_at out (drop (length out) lent) n out_length

@@ -15,8 +15,8 @@ use lib.ListN.{length, length-append}
 use Rattle.block_records.specs.declared.block_id.BlockId.{BlockId}
 use Rattle.block_records.specs.declared.block_id.BlockIdShort.{BlockIdShort}
 use Rattle.block_records.specs.declared.block_id.ShardIdent.{ShardIdent}
-use Rattle.block_records.proofs.rules.ListLaws.{length_each, length_select}
-use Rattle.block_records.proofs.rules.Tests.{and_left, and_right, on, some_not_none}
+use Rattle.block_records.proofs.rules.ListLaws.{length_select}
+use Rattle.block_records.proofs.rules.Tests.{on, some_not_none}
 use Rattle.block_records.specs.rules.BlockId.{id_shard, key, key_shard, same_shard}
 use Rattle.block_records.specs.rules.Entry.{Entry}
 use Rattle.block_records.specs.rules.Lists.{total}
@@ -24,12 +24,15 @@ use Rattle.block_records.specs.rules.Questions.{entry_fits}
 use Rattle.blocks_group.proofs.rules.GroupLaws.{previous_two, tops_eight}
 use Rattle.blocks_group.specs.rules.Group.{GroupModel, at_seqno, has_seqno, refresh, with_entries, without}
 use Rattle.blocks_group.specs.rules.Soundness.{fits_in, of_shard}
-use Rattle.cache_rules.proofs.ExtractionLaws.{ahead, ends}
+use Rattle.cache_rules.proofs.ExtractionLaws.{ends}
 use Rattle.cache_rules.proofs.ShardLaws.{previous_refreshed, previous_removed}
 use Rattle.cache_rules.proofs.SoundLaws.{parts, shard_parts}
 use Rattle.cache_rules.specs.Extraction.{Walk, extract, extraction_of, first_walk, previous_cached, previous_in, starting_ids, starting_items, starts, take_found, take_id, take_one, take_times, top_id}
 use Rattle.cache_rules.specs.Model.{Model, ShardModel, block_under, on_shard, remove_block}
 use Rattle.cache_rules.specs.Refusals.{sound_model, sound_shard_model}
+use Rattle.cache_rules.proofs.WalkLaws.{walk_keeps}
+use Rattle.std.proofs.lemmas.List.{length-map}
+use Rattle.std.specs.Cmp.{first_so, second_so}
 
 -- the shard blocks in the cache
 abbrev pub blocks_cached : List ShardModel → ℕ
@@ -47,19 +50,6 @@ same_end zero n m w p q = sym (idle_times n m w p)
 same_end (suc k) zero m w p q = idle_times (suc k) m w q
 same_end (suc k) (suc n) m w p q = same_end k n m (take_one m w) p q
 
--- what a loop that takes one id after another ends with
-unfoldable pub finish : ℕ → Walk → Walk
-finish m w = take_times (ahead w) m w
-
-pub finish_done : (m : ℕ) (w : Walk) → w.waiting ≡ [] → finish m w ≡ w
-unfolding finish
-finish_done m w e = idle_times (ahead w) m w e
-
-pub finish_one : (m : ℕ) (w : Walk) → finish m (take_one m w) ≡ finish m w
-unfolding finish
-finish_one m w =
-    same_end (suc (ahead (take_one m w))) (ahead w) m w (ends (ahead (take_one m w)) m (take_one m w) (le_refl _)) (ends (ahead w) m w (le_refl _))
-
 -- ===== the ids taken =====
 
 -- taken and waiting: the starting ids and the previous ids of all joined
@@ -72,13 +62,9 @@ found_counted n m i rest w None h = omega arith
 found_counted n m i rest w (Some e) h =
     on (eqb e.reference m) (λ t. rw t (omega (arith, length-append rest e.previous))) (λ t. rw t (omega arith))
 
-id_counted : (n m : ℕ) (w : Walk) (q : List BlockId) → w.waiting ≡ q → w.taken + length q ≡ n + previous_in w.joined → Counted n (take_id m w q)
-id_counted n m w [] e h = omega (arith, h, ap length e)
-id_counted n m w (i ∷ rest) e h = found_counted n m i rest w (block_under w.shards (key i)) h
-
 times_counted : (k n m : ℕ) (w : Walk) → Counted n w → Counted n (take_times k m w)
-times_counted zero n m w h = h
-times_counted (suc k) n m w h = times_counted k n m (take_one m w) (id_counted n m w w.waiting refl h)
+times_counted k n m w h =
+    walk_keeps m (Counted n) (λ w i rest o e f c. found_counted n m i rest w o (omega (arith, c, ap length e))) k w h
 
 -- an id is taken for each starting id and for each previous id of a block that joined
 pub taken_count : (m : ℕ) (ids : List BlockId) (gs : List ShardModel) → (extract m ids gs).taken ≡ length ids + previous_in (extract m ids gs).joined
@@ -130,13 +116,8 @@ found_bounded p b m i rest w (Some e) f h =
     }))
     (λ t. rw t (record { ids = omega (arith, h.ids, l); blocks = omega (arith, h.blocks, n) }))
 
-id_bounded : (p b m : ℕ) (w : Walk) (q : List BlockId) → Bounded p b w → Bounded p b (take_id m w q)
-id_bounded p b m w [] h = h
-id_bounded p b m w (i ∷ rest) h = found_bounded p b m i rest w (block_under w.shards (key i)) refl h
-
 times_bounded : (k p b m : ℕ) (w : Walk) → Bounded p b w → Bounded p b (take_times k m w)
-times_bounded zero p b m w h = h
-times_bounded (suc k) p b m w h = times_bounded k p b m (take_one m w) (id_bounded p b m w w.waiting h)
+times_bounded k p b m w h = walk_keeps m (Bounded p b) (λ w i rest o e f c. found_bounded p b m i rest w o f c) k w h
 
 module _ (k m : ℕ) (ids : List BlockId) (gs : List ShardModel) where
   abbrev w₀ : Walk
@@ -159,22 +140,22 @@ module _ (k m : ℕ) (ids : List BlockId) (gs : List ShardModel) where
 previous_at_most : (p : ShardIdent → Bool) (es : List Entry) → list_all (fits_in p) es ≡ true → previous_in es ≤ 2 * length es
 previous_at_most p [] h = omega arith
 previous_at_most p (e ∷ es) h =
-    let ih = previous_at_most p es (and_right (fits_in p e) (list_all (fits_in p) es) h) in
-    let f : fits_in p e ≡ true = and_left (fits_in p e) (list_all (fits_in p) es) h in
-    omega (arith, ih, previous_two e (and_right (p (id_shard e.id)) (entry_fits e) f))
+    let ih = previous_at_most p es (second_so (fits_in p e) (list_all (fits_in p) es) h) in
+    let f : fits_in p e ≡ true = first_so (fits_in p e) (list_all (fits_in p) es) h in
+    omega (arith, ih, previous_two e (second_so (p (id_shard e.id)) (entry_fits e) f))
 
 pub shards_previous : (gs : List ShardModel) → list_all sound_shard_model gs ≡ true → previous_cached gs ≤ 32 * length gs
 shards_previous [] h = omega arith
 shards_previous (x ∷ gs) h =
-    let ih = shards_previous gs (and_right (sound_shard_model x) (list_all sound_shard_model gs) h) in
-    let g = shard_parts x (and_left (sound_shard_model x) (list_all sound_shard_model gs) h) in
+    let ih = shards_previous gs (second_so (sound_shard_model x) (list_all sound_shard_model gs) h) in
+    let g = shard_parts x (first_so (sound_shard_model x) (list_all sound_shard_model gs) h) in
     omega (arith, ih, leb-true (length x.group.entries) 16 g.count, previous_at_most (of_shard x.shard) x.group.entries g.fit)
 
 pub shards_blocks : (gs : List ShardModel) → list_all sound_shard_model gs ≡ true → blocks_cached gs ≤ 16 * length gs
 shards_blocks [] h = omega arith
 shards_blocks (x ∷ gs) h =
-    let ih = shards_blocks gs (and_right (sound_shard_model x) (list_all sound_shard_model gs) h) in
-    let g = shard_parts x (and_left (sound_shard_model x) (list_all sound_shard_model gs) h) in
+    let ih = shards_blocks gs (second_so (sound_shard_model x) (list_all sound_shard_model gs) h) in
+    let g = shard_parts x (first_so (sound_shard_model x) (list_all sound_shard_model gs) h) in
     omega (arith, ih, leb-true (length x.group.entries) 16 g.count)
 
 -- at any time no more than 264 ids have been in the list
@@ -187,7 +168,7 @@ places_suffice k m M ok fit =
     omega (
       arith,
       places k M.id.seqno ids m.shards,
-      length_each top_id (starting_items m.zerostate M),
+      length-map (starting_items m.zerostate M) top_id,
       length_select (starts m.zerostate) M.tops,
       tops_eight M fit,
       shards_previous m.shards p.each_ok,

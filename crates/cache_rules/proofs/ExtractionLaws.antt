@@ -19,6 +19,7 @@ use Rattle.block_records.specs.rules.Entry.{Entry}
 use Rattle.cache_rules.proofs.ShardLaws.{lookup_others, lookup_refreshed, lookup_removed, previous_refreshed, previous_removed}
 use Rattle.cache_rules.specs.Extraction.{Walk, previous_cached, starts, take_found, take_id, take_one, take_times}
 use Rattle.cache_rules.specs.Model.{ShardModel, block_under, refresh_shard, remove_block}
+use Rattle.cache_rules.proofs.WalkLaws.{walk_keeps}
 
 -- no two of the entries have one key
 abbrev pub OnceEntries : List Entry → Type 0
@@ -255,10 +256,5 @@ module _ (gs₀ : List ShardModel) (mm : ℕ) (R : BlockId → Type 0) (ids₀ :
         (dropped i rest w.shards (remove_block (key i) w.shards) w.joined e h (lookup_removed (key i) w.shards)
         (λ k d. lookup_others (key i) w.shards k d) v (eqb-false e.reference mm t)))
 
-    id_keeps : (w : Walk) (q : List BlockId) → Inv q w.shards w.joined → w.waiting ≡ q → Keeps (take_id mm w q)
-    id_keeps w [] v e = rw e v
-    id_keeps w (i ∷ rest) v e = found_keeps i rest w (block_under w.shards (key i)) refl v
-
     pub times_keeps : (k : ℕ) (w : Walk) → Keeps w → Keeps (take_times k mm w)
-    times_keeps zero w v = v
-    times_keeps (suc k) w v = times_keeps k (take_one mm w) (id_keeps w w.waiting v refl)
+    times_keeps k w v = walk_keeps mm Keeps (λ w i rest o e f v. found_keeps i rest w o f (rw e at v)) k w v

@@ -16,7 +16,7 @@ use Rattle.block_records.specs.declared.block_id.BlockIdShort.{BlockIdShort}
 use Rattle.block_records.specs.declared.entry.BlockCacheEntry.{BlockCacheEntry}
 use Rattle.block_records.specs.declared.top_block.TopBlock.{TopBlock}
 use Rattle.block_records.proofs.rules.Finds.{each_member, member_each}
-use Rattle.block_records.proofs.rules.Tests.{and_intro, and_left, and_right, on}
+use Rattle.block_records.proofs.rules.Tests.{and_intro, on}
 use Rattle.block_records.specs.layout.Entry.{pack_entry}
 use Rattle.block_records.specs.rules.BlockId.{key}
 use Rattle.block_records.specs.rules.Entry.{Entry}
@@ -26,6 +26,7 @@ use Rattle.cache_rules.specs.Claim.{Joins, Once, Reached, by_previous, by_top}
 use Rattle.cache_rules.specs.Extraction.{Walk, extraction_of, first_walk, previous_cached, starting_ids, starts, top_id}
 use Rattle.cache_rules.specs.Model.{Model, block_under}
 use Rattle.cache_rules.specs.Refusals.{sound_model}
+use Rattle.std.specs.Cmp.{first_so, second_so}
 
 -- ===== the starting ids =====
 
@@ -64,8 +65,8 @@ module _ (m : Model) (M : Entry) (ok : sound_model m ≡ true) where
       let r = start_item m.zerostate M.tops u in
       let t = r.0 in
       subst (Reached m M) (sym r.3)
-      (by_top t r.1 (and_left t.updated (ltb m.zerostate t.ref_by_mc_seqno) r.2)
-      (ltb-true m.zerostate t.ref_by_mc_seqno (and_right t.updated (ltb m.zerostate t.ref_by_mc_seqno) r.2)))
+      (by_top t r.1 (first_so t.updated (ltb m.zerostate t.ref_by_mc_seqno) r.2)
+      (ltb-true m.zerostate t.ref_by_mc_seqno (second_so t.updated (ltb m.zerostate t.ref_by_mc_seqno) r.2)))
 
   key_of_found : (k : BlockIdShort) (e : Entry) → block_under m.shards k ≡ Some e → key e.id ≡ k
   key_of_found = lookup_key m ok

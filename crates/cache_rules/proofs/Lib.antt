@@ -1,5 +1,6 @@
 pub mod ShardLaws
 pub mod SoundLaws
+pub mod WalkLaws
 pub mod ExtractionLaws
 pub mod CountLaws
 pub mod HandsOutLaws

@@ -6,7 +6,7 @@ use Rattle.std.specs.Prelude.{Option, None, Some, cond, filter}
 use mathlib.Core.Bool.{Bool, ◌&&◌, ◌||◌, false, not, true}
 use mathlib.Core.List.{List, [], ◌∷◌}
 use mathlib.Core.Path.{◌≡◌, refl}
-use Prim.Native.Nat.{◌+◌, suc, zero, ℕ}
+use Prim.Native.Nat.{◌+◌, ℕ}
 use native.Mathlib.Nat.{le_refl}
 use native.Mathlib.Omega.{arith}
 use borrow.Author.Tests.{le-leb, leb-false, leb-true}
@@ -22,17 +22,19 @@ use Rattle.block_records.specs.declared.store_records.BlockCandidate.{BlockCandi
 use Rattle.block_records.specs.declared.store_records.ReceivedBlock.{ReceivedBlock}
 use Rattle.block_records.proofs.rules.Finds.{find_member}
 use Rattle.block_records.proofs.rules.ListLaws.{every_each, every_member, every_put, every_select, every_weaken}
-use Rattle.block_records.proofs.rules.Tests.{and_left, and_right, clash, on, some_not_none}
+use Rattle.block_records.proofs.rules.Tests.{clash, on, some_not_none}
 use Rattle.block_records.specs.rules.BlockId.{id_shard, is_masterchain, key, key_shard, same_id, same_shard}
 use Rattle.block_records.specs.rules.Entry.{Entry, is_applied, is_received, kind_received, same_status, with_kind}
 use Rattle.block_records.specs.rules.Lists.{put}
 use Rattle.blocks_group.specs.rules.Group.{GroupModel, at_seqno, below_boundary, changed_entries, collated_above, collated_kind, entry_before, has_seqno, received_kind, refresh, refreshed_mark, store_collated_at, store_received_at, with_boundary, with_entries, without_collated_above}
 use Rattle.cache_rules.specs.Calls.{Validation}
 use Rattle.cache_rules.specs.Effects.{after, bound_one, collated_data, collect_shard, do_collect, do_store_collated, do_store_received, extracted_model, masters_without, peek_entry, pop_entry, remove_one, result_handle, result_status, result_weight, store_change, sync_entry, tail_ids_entry, validate_entry, validate_kind, validated_kind}
-use Rattle.cache_rules.specs.Extraction.{Walk, extraction_of, first_walk, previous_cached, starting_ids, take_found, take_id, take_one, take_times}
+use Rattle.cache_rules.specs.Extraction.{Walk, extraction_of, first_walk, previous_cached, starting_ids, take_found, take_times}
 use Rattle.cache_rules.specs.Marked.{entry_marked, group_marked, received_marked, shard_marked}
-use Rattle.cache_rules.specs.Model.{Model, ShardModel, block_under, entry_for, find_shard, group_for, group_in, is_shard, moved_start, on_shard, remove_block, shard_before, with_group}
+use Rattle.cache_rules.specs.Model.{Model, ShardModel, entry_for, find_shard, group_for, group_in, is_shard, moved_start, on_shard, remove_block, shard_before, with_group}
 use Rattle.cache_rules.specs.Refusals.{is_synced, mark_reaches}
+use Rattle.cache_rules.proofs.WalkLaws.{walk_keeps}
+use Rattle.std.specs.Cmp.{first_so, second_so}
 
 -- ===== one group =====
 
@@ -113,7 +115,7 @@ pub record Marked (m : Model) : Type 0 where
 
 pub marked_parts : (m : Model) → received_marked m ≡ true → Marked m
 marked_parts m h =
-    record { masters = and_left (group_marked m.masters) (list_all shard_marked m.shards) h; shards = and_right (group_marked m.masters) (list_all shard_marked m.shards) h }
+    record { masters = first_so (group_marked m.masters) (list_all shard_marked m.shards) h; shards = second_so (group_marked m.masters) (list_all shard_marked m.shards) h }
 
 -- the group that a block of a shard is stored in
 pub group_for_marked : (s : ShardIdent) (m : Model) → Marked m → group_marked (group_for s m) ≡ true
@@ -185,13 +187,8 @@ found_shards mm i q w (Some e) h =
     on_marked (id_shard i) _ w.shards (group_filtered (λ (x : Entry). not (has_seqno i.seqno x))) h in
     on (eqb e.reference mm) (λ t. rw t (on_marked (id_shard i) (refresh i.seqno) (remove_block (key i) w.shards) (group_refreshed i.seqno) l)) (λ t. rw t l)
 
-id_shards : (mm : ℕ) (w : Walk) (q : List BlockId) → list_all shard_marked w.shards ≡ true → list_all shard_marked (take_id mm w q).shards ≡ true
-id_shards mm w [] h = h
-id_shards mm w (i ∷ q) h = found_shards mm i q w (block_under w.shards (key i)) h
-
 times_shards : (k mm : ℕ) (w : Walk) → list_all shard_marked w.shards ≡ true → list_all shard_marked (take_times k mm w).shards ≡ true
-times_shards zero mm w h = h
-times_shards (suc k) mm w h = times_shards k mm (take_one mm w) (id_shards mm w w.waiting h)
+times_shards k mm w h = walk_keeps mm (λ w. list_all shard_marked w.shards ≡ true) (λ w i rest o e f c. found_shards mm i rest w o c) k w h
 
 extracted_marked : (M : Entry) (m : Model) (masters : GroupModel) (range : Option AppliedRange) → Marked m → group_marked masters ≡ true →
     Marked (extracted_model M (extraction_of M m) masters range m)

@@ -4,7 +4,7 @@ use Rattle.block_records.specs.declared.questions.Refusal.{Refusal}
 use Rattle.block_records.specs.declared.questions.Refusal.TheVariants.{AlreadyStored}
 use Rattle.std.specs.List.{list_all}
 use Rattle.std.specs.Prelude.{Option, None, Some, is_some}
-use mathlib.Core.Bool.{Bool, ◌||◌, false, not, true}
+use mathlib.Core.Bool.{◌||◌, not, true}
 use mathlib.Core.List.{List, [], ◌∷◌}
 use mathlib.Core.Logic.{◌≢◌}
 use mathlib.Core.Path.{◌∙◌, ◌≡◌, ap, refl}
@@ -15,7 +15,7 @@ use lib.ListN.{length}
 use Rattle.block_records.specs.declared.entry.BlockCacheEntry.{BlockCacheEntry}
 use Rattle.block_records.specs.declared.store_records.ReceivedBlock.{ReceivedBlock}
 use Rattle.block_records.proofs.rules.Finds.{find_passes}
-use Rattle.block_records.proofs.rules.Tests.{and_intro, and_left, and_right, clash, on, some_not_none}
+use Rattle.block_records.proofs.rules.Tests.{and_intro, clash, on, some_not_none}
 use Rattle.block_records.specs.rules.BlockId.{id_shard, listed_keys}
 use Rattle.block_records.specs.rules.Entry.{Entry, is_received}
 use Rattle.block_records.specs.rules.Questions.{refusal_number, Question, first_no}
@@ -28,6 +28,8 @@ use Rattle.cache_rules.specs.Effects.{after, answered, effect, step}
 use Rattle.cache_rules.specs.Marked.{group_marked, received_marked}
 use Rattle.cache_rules.specs.Model.{Model, empty_model, entry_for, first_applied, group_for}
 use Rattle.cache_rules.specs.Refusals.{further, mark_reaches, questions}
+use Rattle.std.proofs.Math.Bool.{or-true}
+use Rattle.std.specs.Cmp.{first_so, second_so}
 
 -- ===== every request, every call, every list of calls =====
 
@@ -65,10 +67,6 @@ after_marked (call ∷ calls) m h = after_marked calls (step m call).model (step
 
 -- ===== a received store =====
 
-or_true : (a : Bool) → a || true ≡ true
-or_true true = refl
-or_true false = refl
-
 reached_given : (n : ℕ) (k : Option ℕ) → mark_reaches n k ≡ true → is_some (given_mark n k) ≡ true
 reached_given n None h = h
 reached_given n (Some k) h = rw h
@@ -76,12 +74,12 @@ reached_given n (Some k) h = rw h
 -- a Received entry in the way means that the mark has reached it: Synced
 synced_or_free : (n : ℕ) (g : GroupModel) (o : Option Entry) → group_marked g ≡ true → at_seqno n g.entries ≡ o →
     is_some (given_mark n g.mark) || vacant_or (λ (e : Entry). not (is_received e)) o ≡ true
-synced_or_free n g None h f = or_true (is_some (given_mark n g.mark))
+synced_or_free n g None h f = or-true (is_some (given_mark n g.mark))
 synced_or_free n g (Some e) h f =
     let s : e.id.seqno ≡ n = eqb-true e.id.seqno n (find_passes (has_seqno n) g.entries f) in
     on (is_received e)
     (λ t. let k : mark_reaches e.id.seqno g.mark ≡ true = rw t at (found_marked n g h f) in rw (reached_given n g.mark (rw s at k)))
-    (λ t. rw t (or_true (is_some (given_mark n g.mark))))
+    (λ t. rw t (or-true (is_some (given_mark n g.mark))))
 
 -- where every question of a number is answered by yes, that question is not the first no
 not_first : (n : ℕ) (qs : List Question) → list_all (λ (q : Question). not (eqb (refusal_number q.refusal) n) || q.yes?) qs ≡ true →
@@ -91,10 +89,10 @@ not_first n (q ∷ qs) a r k h =
     let of_q = not (eqb (refusal_number q.refusal) n) || q.yes? in
     let rest = list_all (λ (x : Question). not (eqb (refusal_number x.refusal) n) || x.yes?) qs in
     on q.yes?
-    (λ t. not_first n qs (and_right of_q rest a) r k (rw t at h))
+    (λ t. not_first n qs (second_so of_q rest a) r k (rw t at h))
     (λ t. let e : Some q.refusal ≡ Some r = rw t at h in
     let s : q.refusal ≡ r = cc in
-    let y : not (eqb (refusal_number q.refusal) n) || q.yes? ≡ true = and_left of_q rest a in
+    let y : not (eqb (refusal_number q.refusal) n) || q.yes? ≡ true = first_so of_q rest a in
     clash (rw (t, eq-eqb (refusal_number q.refusal) n (ap refusal_number s ∙ k)) at y) refl)
 
 module _ (m : Model) (h : received_marked m ≡ true) (r : ReceivedBlock) (lent : List BlockCacheEntry) where

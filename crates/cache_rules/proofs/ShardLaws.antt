@@ -16,8 +16,8 @@ use Rattle.block_records.specs.declared.block_id.BlockIdShort.{BlockIdShort}
 use Rattle.block_records.specs.declared.block_id.ShardIdent.{ShardIdent}
 use Rattle.block_records.proofs.rules.BlockIdLaws.{key_path, same_shard_false, same_shard_true, shard_order}
 use Rattle.block_records.proofs.rules.Finds.{find_member, find_passes}
-use Rattle.block_records.proofs.rules.ListLaws.{by_order, every_each, every_member, every_put, length_each, length_put, length_put_same, rising_each, rising_put}
-use Rattle.block_records.proofs.rules.Tests.{and_intro, and_left, and_right, on, some_not_none}
+use Rattle.block_records.proofs.rules.ListLaws.{by_order, every_each, every_member, every_put, length_put, length_put_same, rising_each, rising_put}
+use Rattle.block_records.proofs.rules.Tests.{and_intro, on, some_not_none}
 use Rattle.block_records.specs.rules.BlockId.{is_masterchain, key_shard, less_shard, same_shard}
 use Rattle.block_records.specs.rules.Entry.{Entry}
 use Rattle.block_records.specs.rules.Lists.{rising}
@@ -27,6 +27,8 @@ use Rattle.blocks_group.specs.rules.Soundness.{of_shard, sound_group_model}
 use Rattle.cache_rules.specs.Extraction.{previous_cached, previous_in}
 use Rattle.cache_rules.specs.Model.{ShardModel, block_under, find_shard, group_in, group_of, is_shard, on_shard, refresh_shard, remove_block, set_group, shard_before}
 use Rattle.cache_rules.specs.Refusals.{sound_shard_model}
+use Rattle.std.proofs.lemmas.List.{length-map}
+use Rattle.std.specs.Cmp.{first_so, second_so}
 
 -- ===== what is found after a change of one shard's group =====
 
@@ -137,7 +139,7 @@ pub shards_change : (s : ShardIdent) (f : GroupModel → GroupModel) (gs : List 
 unfolding change_one
 shards_change s f gs keeps h =
     record {
-      count = rw (length_each (change_one s f) gs) h.count;
+      count = rw (length-map gs (change_one s f)) h.count;
       order = rising_each (change_one s f) shard_before shard_before gs (λ x y l. rw (changed_shard s f x, changed_shard s f y) l) h.order;
       each_ok = every_each (change_one s f) sound_shard_model sound_shard_model gs one h.each_ok;
     }
@@ -146,8 +148,8 @@ shards_change s f gs keeps h =
     one x ok =
         on (same_shard x.shard s)
         (λ t. let e = same_shard_true x.shard s t in
-        let side = and_left (not (is_masterchain x.shard)) (sound_group_model (of_shard x.shard) x.group) ok in
-        let whole = and_right (not (is_masterchain x.shard)) (sound_group_model (of_shard x.shard) x.group) ok in
+        let side = first_so (not (is_masterchain x.shard)) (sound_group_model (of_shard x.shard) x.group) ok in
+        let whole = second_so (not (is_masterchain x.shard)) (sound_group_model (of_shard x.shard) x.group) ok in
         let k : sound_group_model (of_shard x.shard) (f x.group) ≡ true = rw e (keeps x.group (rw e at whole)) in
         rw t (and_intro side k))
         (λ t. rw t ok)
@@ -158,7 +160,7 @@ shard_found s None gs h f = refl
 shard_found s (Some x) gs h f =
     let e : x.shard ≡ s = same_shard_true x.shard s (find_passes (is_shard s) gs f) in
     let ok = every_member sound_shard_model gs h (find_member (is_shard s) gs f) in
-    let w : sound_group_model (of_shard x.shard) x.group ≡ true = and_right (not (is_masterchain x.shard)) (sound_group_model (of_shard x.shard) x.group) ok in
+    let w : sound_group_model (of_shard x.shard) x.group ≡ true = second_so (not (is_masterchain x.shard)) (sound_group_model (of_shard x.shard) x.group) ok in
     rw e at w
 
 pub group_of_sound : (s : ShardIdent) (gs : List ShardModel) → ShardsOk gs → sound_group_model (of_shard s) (group_of s gs) ≡ true

@@ -5,7 +5,7 @@ use Rattle.std.specs.List.{list_all}
 use Rattle.std.specs.Prelude.{Option, None, Some}
 use mathlib.Core.Bool.{false, not, true}
 use mathlib.Core.List.{List, Memᴰ, [], ◌∷◌}
-use mathlib.Core.Logic.{◌↔◌, ◌⊎◌, inl, inr}
+use mathlib.Core.Logic.{◌⊎◌, inl, inr}
 use mathlib.Core.Path.{◌∙◌, ◌≡◌, refl, subst, sym}
 use Prim.Native.Nat.{ℕ}
 use borrow.Author.Tests.{eqb-true, le-leb, leb-true}
@@ -17,7 +17,7 @@ use Rattle.block_records.specs.declared.block_id.ShardIdent.{ShardIdent}
 use Rattle.block_records.proofs.rules.BlockIdLaws.{key_path, same_shard_refl, same_shard_true, shard_order}
 use Rattle.block_records.proofs.rules.Finds.{find_member, find_passes}
 use Rattle.block_records.proofs.rules.ListLaws.{every_member}
-use Rattle.block_records.proofs.rules.Tests.{and_intro, and_left, and_right, clash, on, some_not_none}
+use Rattle.block_records.proofs.rules.Tests.{and_intro, clash, on, some_not_none}
 use Rattle.block_records.specs.rules.BlockId.{id_shard, is_masterchain, key, key_shard, less_shard, same_shard}
 use Rattle.block_records.specs.rules.Entry.{Entry}
 use Rattle.block_records.specs.rules.Lists.{rising}
@@ -26,9 +26,10 @@ use Rattle.blocks_group.proofs.rules.GroupLaws.{GroupParts, found_itself, group_
 use Rattle.blocks_group.specs.rules.Group.{at_seqno, has_seqno}
 use Rattle.blocks_group.specs.rules.Soundness.{fits_in, of_shard, sound_group_model}
 use Rattle.cache_rules.proofs.ShardLaws.{ShardsOk}
-use Rattle.cache_rules.specs.Claim.{Cached, CachedMaster, RangeHolds, RangeOk}
+use Rattle.cache_rules.specs.Claim.{Cached, RangeHolds, RangeOk}
 use Rattle.cache_rules.specs.Model.{Model, ShardModel, block_under, id_before, shard_before}
 use Rattle.cache_rules.specs.Refusals.{id_masterchain, sound_model, sound_range, sound_shard_model}
+use Rattle.std.specs.Cmp.{first_so, second_so}
 
 pub record IdsOk (ids : List BlockId) : Type 0 where
   pub count : leb (length ids) 32 ≡ true
@@ -47,9 +48,9 @@ pub record Parts (m : Model) : Type 0 where
 
 range_fact : (k : Option ℕ) (r : Option AppliedRange) → sound_range k r ≡ true → RangeHolds k r
 range_fact k None h = tt
-range_fact None (Some r) h = clash (and_right (leb r.start r.end) false h) refl
+range_fact None (Some r) h = clash (second_so (leb r.start r.end) false h) refl
 range_fact (Some k) (Some r) h =
-    (leb-true r.start r.end (and_left (leb r.start r.end) (leb r.end k) h), leb-true r.end k (and_right (leb r.start r.end) (leb r.end k) h))
+    (leb-true r.start r.end (first_so (leb r.start r.end) (leb r.end k) h), leb-true r.end k (second_so (leb r.start r.end) (leb r.end k) h))
 
 range_test : (k : Option ℕ) (r : Option AppliedRange) → RangeHolds k r → sound_range k r ≡ true
 range_test k None h = refl
@@ -59,13 +60,13 @@ range_test (Some k) (Some r) h = and_intro (le-leb r.start r.end h.0) (le-leb r.
 pub parts : (m : Model) → sound_model m ≡ true → Parts m
 unfolding sound_model
 parts m h =
-    let r : sound_range m.masters.mark m.range ≡ true = search and_left depth 8 in
+    let r : sound_range m.masters.mark m.range ≡ true = search first_so depth 8 in
     record {
       range = range_fact m.masters.mark m.range r;
       rest = record {
-        masters = search (and_left, and_right) depth 8;
-        ids = record { count = search (and_left, and_right) depth 8; order = search (and_left, and_right) depth 8; side = search (and_left, and_right) depth 8 };
-        shards = record { count = search (and_left, and_right) depth 9; order = search (and_left, and_right) depth 9; each_ok = search (and_left, and_right) depth 9 };
+        masters = search (first_so, second_so) depth 8;
+        ids = record { count = search (first_so, second_so) depth 8; order = search (first_so, second_so) depth 8; side = search (first_so, second_so) depth 8 };
+        shards = record { count = search (first_so, second_so) depth 9; order = search (first_so, second_so) depth 9; each_ok = search (first_so, second_so) depth 9 };
       };
     }
 
@@ -78,13 +79,13 @@ whole m h =
 -- ===== one shard group of a sound model =====
 
 pub shard_parts : (g : ShardModel) → sound_shard_model g ≡ true → GroupParts (of_shard g.shard) g.group
-shard_parts g ok = group_parts (of_shard g.shard) g.group (and_right (not (is_masterchain g.shard)) (sound_group_model (of_shard g.shard) g.group) ok)
+shard_parts g ok = group_parts (of_shard g.shard) g.group (second_so (not (is_masterchain g.shard)) (sound_group_model (of_shard g.shard) g.group) ok)
 
 -- an entry in it has its shard and fits
 pub shard_entry : (g : ShardModel) → sound_shard_model g ≡ true → (e : Entry) → Memᴰ e g.group.entries → (id_shard e.id ≡ g.shard) × (entry_fits e ≡ true)
 shard_entry g ok e u =
     let f = every_member (fits_in (of_shard g.shard)) g.group.entries (shard_parts g ok).fit u in
-    (same_shard_true (id_shard e.id) g.shard (and_left (same_shard (id_shard e.id) g.shard) (entry_fits e) f), and_right (same_shard (id_shard e.id) g.shard) (entry_fits e) f)
+    (same_shard_true (id_shard e.id) g.shard (first_so (same_shard (id_shard e.id) g.shard) (entry_fits e) f), second_so (same_shard (id_shard e.id) g.shard) (entry_fits e) f)
 
 -- ===== what is cached under a key is what is looked up =====
 
@@ -118,18 +119,18 @@ module _ (k : BlockIdShort) (e : Entry) where
   member_looked_up [] ok r g u s v n = absurd (mathlib.Core.List.Memᴰ.not-nil u)
   member_looked_up (x ∷ gs) ok r g u s v n =
       by (mathlib.Core.List.Memᴰ.cases_cons u)
-      (λ (w : Memᴰ g gs). member_looked_up gs (and_right (sound_shard_model x) (list_all sound_shard_model gs) ok) (and_right (list_all (shard_before x) gs) (rising shard_before gs) r) g w s v n)
+      (λ (w : Memᴰ g gs). member_looked_up gs (second_so (sound_shard_model x) (list_all sound_shard_model gs) ok) (second_so (list_all (shard_before x) gs) (rising shard_before gs) r) g w s v n)
     where
       by : (g ≡ x) ⊎ Memᴰ g gs → (Memᴰ g gs → block_under gs k ≡ Some e) → block_under (x ∷ gs) k ≡ Some e
       by (inl q) ih =
           let sx : x.shard ≡ key_shard k = subst (λ (y : ShardModel). y.shard ≡ key_shard k) q s in
           let vx : Memᴰ e x.group.entries = subst (λ (y : ShardModel). Memᴰ e y.group.entries) q v in
-          let f : at_seqno e.id.seqno x.group.entries ≡ Some e = found_itself x.group.entries (shard_parts x (and_left (sound_shard_model x) (list_all sound_shard_model gs) ok)).order vx in
+          let f : at_seqno e.id.seqno x.group.entries ≡ Some e = found_itself x.group.entries (shard_parts x (first_so (sound_shard_model x) (list_all sound_shard_model gs) ok)).order vx in
           let f' : at_seqno k.seqno x.group.entries ≡ Some e = subst (λ (y : ℕ). at_seqno y x.group.entries ≡ Some e) n f in
           let t : same_shard x.shard (key_shard k) ≡ true = subst (λ (y : ShardIdent). same_shard x.shard y ≡ true) sx (same_shard_refl x.shard) in
           rw t f'
       by (inr w) ih =
-          let l : less_shard x.shard g.shard ≡ true = every_member (shard_before x) gs (and_left (list_all (shard_before x) gs) (rising shard_before gs) r) w in
+          let l : less_shard x.shard g.shard ≡ true = every_member (shard_before x) gs (first_so (list_all (shard_before x) gs) (rising shard_before gs) r) w in
           on (same_shard x.shard (key_shard k))
           (λ t. let q : x.shard ≡ g.shard = same_shard_true x.shard (key_shard k) t ∙ sym s in
           clash l (subst (λ (y : ShardIdent). less_shard x.shard y ≡ false) q (shard_order.irrefl x.shard)))
@@ -147,14 +148,3 @@ cached_lookup m ok k e c =
 -- a block that is looked up has the key that was asked for
 pub lookup_key : (m : Model) → sound_model m ≡ true → (k : BlockIdShort) (e : Entry) → block_under m.shards k ≡ Some e → key e.id ≡ k
 lookup_key m ok k e h = cached_key m ok k e (lookup_cached m k e h)
-
--- both ways, for shard blocks and for masters
-pub cached_is_lookup : (m : Model) → sound_model m ≡ true → (k : BlockIdShort) (e : Entry) → (block_under m.shards k ≡ Some e) ↔ Cached m k e
-cached_is_lookup m ok k e = (lookup_cached m k e, cached_lookup m ok k e)
-
-pub master_is_at_seqno : (m : Model) → sound_model m ≡ true → (n : ℕ) (e : Entry) → (at_seqno n m.masters.entries ≡ Some e) ↔ (CachedMaster m e × (e.id.seqno ≡ n))
-master_is_at_seqno m ok n e = (
-  (λ f. (find_member (has_seqno n) m.masters.entries f, eqb-true e.id.seqno n (find_passes (has_seqno n) m.masters.entries f))),
-  λ r. subst (λ (k : ℕ). at_seqno k m.masters.entries ≡ Some e) r.1
-      (found_itself m.masters.entries (group_parts is_masterchain m.masters (parts m ok).rest.masters).order r.0),
-)

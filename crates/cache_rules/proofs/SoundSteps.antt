@@ -7,7 +7,7 @@ use Rattle.std.specs.Prelude.{Option, None, Some, map, cond, filter}
 use mathlib.Core.Bool.{not, true}
 use mathlib.Core.List.{List, [], ◌∷◌}
 use mathlib.Core.Path.{◌≡◌, refl, subst, sym}
-use Prim.Native.Nat.{◌+◌, suc, zero, ℕ}
+use Prim.Native.Nat.{◌+◌, ℕ}
 use borrow.Author.Tests.{eqb-true}
 use lib.Dec.{eqb, leb}
 use lib.ListN.{length}
@@ -16,8 +16,8 @@ use Rattle.block_records.specs.declared.block_id.BlockIdShort.{BlockIdShort}
 use Rattle.block_records.specs.declared.entry.BlockCacheEntryData.{BlockCacheEntryData}
 use Rattle.block_records.proofs.rules.BlockIdLaws.{same_shard_refl}
 use Rattle.block_records.proofs.rules.Finds.{find_passes}
-use Rattle.block_records.proofs.rules.ListLaws.{every_each, length_each, rising_each}
-use Rattle.block_records.proofs.rules.Tests.{and_intro, and_left, and_right, on, some_not_none}
+use Rattle.block_records.proofs.rules.ListLaws.{every_each, rising_each}
+use Rattle.block_records.proofs.rules.Tests.{and_intro, on, some_not_none}
 use Rattle.block_records.specs.rules.BlockId.{id_shard, is_masterchain, key, key_shard, listed_keys}
 use Rattle.block_records.specs.rules.Entry.{Entry, is_applied, with_kind}
 use Rattle.block_records.specs.rules.Questions.{Question, first_no}
@@ -30,10 +30,13 @@ use Rattle.cache_rules.proofs.ShardLaws.{ShardsOk, shards_change}
 use Rattle.cache_rules.proofs.SoundLaws.{IdsOk, Parts, Rest, parts, whole}
 use Rattle.cache_rules.proofs.StoreLaws.{candidate_fits, collated_rest, ids_select, receipt_fits, received_rest}
 use Rattle.cache_rules.specs.Calls.{Call, Request, Validation, collect, peek, pop, read_tail_ids, remove_next_collated, set_boundary, store_collated, store_received, store_validation, sync}
-use Rattle.cache_rules.specs.Effects.{after, answered, bound_one, collect_ids, collect_shard, do_collect, effect, extracted_model, masters_without, peek_entry, pop_entry, remove_ids, remove_one, step, sync_entry, tail_ids_entry, validate_entry, validate_kind, validated_kind}
-use Rattle.cache_rules.specs.Extraction.{Walk, extraction_of, first_walk, previous_cached, starting_ids, take_found, take_id, take_one, take_times}
-use Rattle.cache_rules.specs.Model.{Model, ShardModel, block_under, empty_model, first_applied, moved_start, remove_block, shard_before}
+use Rattle.cache_rules.specs.Effects.{answered, bound_one, collect_ids, collect_shard, do_collect, effect, extracted_model, masters_without, peek_entry, pop_entry, remove_ids, remove_one, step, sync_entry, tail_ids_entry, validate_entry, validate_kind, validated_kind}
+use Rattle.cache_rules.specs.Extraction.{Walk, extraction_of, first_walk, previous_cached, starting_ids, take_found, take_times}
+use Rattle.cache_rules.specs.Model.{Model, ShardModel, empty_model, first_applied, moved_start, remove_block, shard_before}
 use Rattle.cache_rules.specs.Refusals.{further, questions, sound_model, sound_shard_model}
+use Rattle.cache_rules.proofs.WalkLaws.{walk_keeps}
+use Rattle.std.proofs.lemmas.List.{length-map}
+use Rattle.std.specs.Cmp.{first_so, second_so}
 
 -- ===== validation =====
 
@@ -62,13 +65,8 @@ found_shards mm i q w (Some e) h =
     shards_change (id_shard i) _ w.shards (λ g k. group_select (of_shard (id_shard i)) (λ (x : Entry). not (has_seqno i.seqno x)) g k) h in
     on (eqb e.reference mm) (λ t. rw t (shards_change (id_shard i) (refresh i.seqno) (remove_block (key i) w.shards) (λ g k. k) l)) (λ t. rw t l)
 
-id_shards : (mm : ℕ) (w : Walk) (q : List BlockId) → ShardsOk w.shards → ShardsOk (take_id mm w q).shards
-id_shards mm w [] h = h
-id_shards mm w (i ∷ q) h = found_shards mm i q w (block_under w.shards (key i)) h
-
 times_shards : (k mm : ℕ) (w : Walk) → ShardsOk w.shards → ShardsOk (take_times k mm w).shards
-times_shards zero mm w h = h
-times_shards (suc k) mm w h = times_shards k mm (take_one mm w) (id_shards mm w w.waiting h)
+times_shards k mm w h = walk_keeps mm (λ w. ShardsOk w.shards) (λ w i rest o e f c. found_shards mm i rest w o c) k w h
 
 extracted_shards : (M : Entry) (m : Model) → ShardsOk m.shards → ShardsOk (extraction_of M m).shards
 extracted_shards M m h =
@@ -126,12 +124,12 @@ remove_ids_ok (e ∷ es) ids h = remove_ids_ok es (remove_ids ids e) (ids_select
 collect_shards : (gs : List ShardModel) → ShardsOk gs → ShardsOk (map collect_shard gs)
 collect_shards gs h =
     record {
-      count = rw (length_each collect_shard gs) h.count;
+      count = rw (length-map gs collect_shard) h.count;
       order = rising_each collect_shard shard_before shard_before gs (λ x y l. l) h.order;
       each_ok = every_each collect_shard sound_shard_model sound_shard_model gs
-          (λ x ok. and_intro (and_left (not (is_masterchain x.shard)) (sound_group_model (of_shard x.shard) x.group) ok)
+          (λ x ok. and_intro (first_so (not (is_masterchain x.shard)) (sound_group_model (of_shard x.shard) x.group) ok)
           (group_select (of_shard x.shard) (λ (e : Entry). not (below_boundary x.group.boundary e)) x.group
-          (and_right (not (is_masterchain x.shard)) (sound_group_model (of_shard x.shard) x.group) ok))) h.each_ok;
+          (second_so (not (is_masterchain x.shard)) (sound_group_model (of_shard x.shard) x.group) ok))) h.each_ok;
     }
 
 collect_rest : (m : Model) → Rest m → Rest (do_collect m)
@@ -200,8 +198,3 @@ answered_parts m call (Some n) e h = h
 pub step_sound : (m : Model) (call : Call) → sound_model m ≡ true → sound_model (step m call).model ≡ true
 unfolding step
 step_sound m call h = whole (answered (first_no (questions m call)) m call).model (answered_parts m call (first_no (questions m call)) refl (parts m h))
-
-pub after_sound : (calls : List Call) (m : Model) → sound_model m ≡ true → sound_model (after m calls) ≡ true
-unfolding after
-after_sound [] m h = h
-after_sound (call ∷ calls) m h = after_sound calls (step m call).model (step_sound m call h)

@@ -21,7 +21,7 @@ use Rattle.block_records.specs.layout.Listed.{TopBlocks}
 use Rattle.block_records.proofs.rules.BlockIdLaws.{same_shard_refl}
 use Rattle.block_records.proofs.rules.Finds.{find_member, find_passes}
 use Rattle.block_records.proofs.rules.ListLaws.{by_number, every_put, every_select, length_put, length_put_same, length_select, rising_put, rising_select}
-use Rattle.block_records.proofs.rules.Tests.{and_intro, and_left, and_right, clash, not_true, on}
+use Rattle.block_records.proofs.rules.Tests.{and_intro, clash, on}
 use Rattle.block_records.specs.rules.BlockId.{id_shard, is_masterchain, listed_prev_ids, listed_tops, same_id}
 use Rattle.block_records.specs.rules.Entry.{Entry, fresh_collated, fresh_received}
 use Rattle.block_records.specs.rules.Lists.{put}
@@ -34,6 +34,8 @@ use Rattle.cache_rules.proofs.SoundLaws.{IdsOk, Rest}
 use Rattle.cache_rules.specs.Effects.{collated_data, do_store_collated, do_store_received, received_stored, store_change}
 use Rattle.cache_rules.specs.Model.{Model, ShardModel, entry_for, find_shard, group_in, group_of, id_before, ids_below}
 use Rattle.cache_rules.specs.Refusals.{has_id_room, has_room, id_masterchain, inserts_or_updates, is_synced}
+use Rattle.std.proofs.lemmas.Bool.{not-true}
+use Rattle.std.specs.Cmp.{first_so, second_so}
 
 -- ===== the last collated ids =====
 
@@ -79,7 +81,7 @@ or_false false b h f = h
 
 or_split : (a b c : Bool) → a || (b && c) ≡ true → a || b ≡ true
 or_split true b c h = refl
-or_split false b c h = and_left b c h
+or_split false b c h = first_so b c h
 
 present_shard : (n : ℕ) (o : Option ShardModel) → is_some (at_seqno n (group_in o).entries) ≡ true → is_some o ≡ true
 present_shard n None h = h
@@ -103,7 +105,7 @@ module _ (i : BlockId) (m : Model) (t : is_masterchain (id_shard i) ≡ false) (
   room_shard =
       on (is_some (at_seqno i.seqno its_entries))
       (λ u. rw (present_shard i.seqno (find_shard (id_shard i) m.shards) u))
-      (λ u. and_right (ltb (length its_entries) 16) shard_room (or_false (is_some (at_seqno i.seqno its_entries)) _ (rw t at h) u))
+      (λ u. second_so (ltb (length its_entries) 16) shard_room (or_false (is_some (at_seqno i.seqno its_entries)) _ (rw t at h) u))
 
 -- a collated store inserts or updates exactly where it has no mismatch
 pub inserts_is : (c : BlockCandidate) (o : Option Entry) → not (inserts_or_updates c o) ≡ (store_collated_at c o).mismatch
@@ -159,8 +161,8 @@ data_rest : (i : BlockId) (mismatch : Bool) (m : Model) → Rest m →
     (id_masterchain i ≡ true → mismatch ≡ false → is_some (find (at_id i.seqno) m.ids) || ltb (length m.ids) 32 ≡ true) → Rest (collated_data i mismatch m)
 data_rest i mismatch m h room =
     on (is_masterchain (id_shard i) && not mismatch)
-    (λ t. let a = and_left (is_masterchain (id_shard i)) (not mismatch) t in
-    let b = not_true mismatch (and_right (is_masterchain (id_shard i)) (not mismatch) t) in
+    (λ t. let a = first_so (is_masterchain (id_shard i)) (not mismatch) t in
+    let b = not-true mismatch (second_so (is_masterchain (id_shard i)) (not mismatch) t) in
     rw t (record { masters = h.masters; ids = ids_put i m.ids h.ids a (room a b); shards = h.shards }))
     (λ t. rw t h)
 
@@ -223,9 +225,9 @@ take_length (suc n) (x ∷ xs) = let ih = take_length n xs in omega arith
 counts_listed : (i : BlockId) (previous : PrevIds) (tops : TopBlocks) → counts_fit i previous.count tops.count ≡ true →
     counts_fit i (length (listed_prev_ids previous)) (length (listed_tops tops)) ≡ true
 counts_listed i previous tops h =
-    let a : leb previous.count 2 ≡ true = search and_left in
-    let b : leb tops.count 8 ≡ true = search (and_left, and_right) in
-    let c : is_masterchain (id_shard i) || eqb tops.count 0 ≡ true = search (and_left, and_right) in
+    let a : leb previous.count 2 ≡ true = search first_so in
+    let b : leb tops.count 8 ≡ true = search (first_so, second_so) in
+    let c : is_masterchain (id_shard i) || eqb tops.count 0 ≡ true = search (first_so, second_so) in
     and_intro (le-leb (length (listed_prev_ids previous)) 2 (omega (arith, take_length previous.count previous.items, leb-true previous.count 2 a)))
     (and_intro (le-leb (length (listed_tops tops)) 8 (omega (arith, take_length tops.count tops.items, leb-true tops.count 8 b)))
     (on (is_masterchain (id_shard i)) (λ t. rw t)
@@ -243,11 +245,11 @@ entry_drop : (b : Bool) (i : BlockId) (ref : ℕ) (ps : List BlockId) (ts : List
     seqnos_fit i ref (cond b [] ps) ts && (counts_fit i (length (cond b [] ps)) (length ts) && links_fit i (cond b [] ps) ts) ≡ true
 entry_drop false i ref ps ts x y z = and_intro x (and_intro y z)
 entry_drop true i ref ps ts x y z =
-    let a : id_fits i ≡ true = search and_left in
-    let b : seqno_fits ref ≡ true = search (and_left, and_right) in
-    let c : list_all top_fits ts ≡ true = search (and_left, and_right) in
-    let d : leb (length ts) 8 && (is_masterchain (id_shard i) || eqb (length ts) 0) ≡ true = search (and_left, and_right) in
-    let e : list_all top_outside ts ≡ true = search (and_left, and_right) in
+    let a : id_fits i ≡ true = search first_so in
+    let b : seqno_fits ref ≡ true = search (first_so, second_so) in
+    let c : list_all top_fits ts ≡ true = search (first_so, second_so) in
+    let d : leb (length ts) 8 && (is_masterchain (id_shard i) || eqb (length ts) 0) ≡ true = search (first_so, second_so) in
+    let e : list_all top_outside ts ≡ true = search (first_so, second_so) in
     and_intro (and_intro a (and_intro b (and_intro refl c))) (and_intro (and_intro refl d) (and_intro refl e))
 
 pub receipt_fits : (z : ℕ) (r : ReceivedBlock) → seqnos_fit r.block_id r.ref_block_id.seqno (listed_prev_ids r.prev_ids) (listed_tops r.top_blocks) ≡ true →

@@ -16,8 +16,8 @@ use Rattle.block_records.specs.declared.block_id.BlockId.{BlockId}
 use Rattle.block_records.specs.declared.block_id.BlockIdShort.{BlockIdShort}
 use Rattle.block_records.specs.declared.block_id.ShardIdent.{ShardIdent}
 use Rattle.block_records.proofs.rules.Finds.{each_member, member_each}
-use Rattle.block_records.proofs.rules.ListLaws.{every_member, length_each}
-use Rattle.block_records.proofs.rules.Tests.{and_left, and_right, clash, on}
+use Rattle.block_records.proofs.rules.ListLaws.{every_member}
+use Rattle.block_records.proofs.rules.Tests.{clash, on}
 use Rattle.block_records.specs.rules.BlockId.{id_shard, key}
 use Rattle.block_records.specs.rules.Entry.{Entry}
 use Rattle.block_records.specs.rules.Lists.{rising}
@@ -36,6 +36,8 @@ use Rattle.cache_rules.specs.Model.{Model, ShardModel, block_under}
 use Rattle.cache_rules.specs.Refusals.{sound_model}
 use Rattle.cache_rules.specs.TailIds.{Fifo, first_row, found_queues, gives, highest, hold, levels, queues, tail_before, tails_of, top_ids, waits}
 use Rattle.cache_rules.specs.TailIdsOnce.{OnceWalk, once_begin, once_times, tails_once}
+use Rattle.std.proofs.lemmas.List.{length-map}
+use Rattle.std.specs.Cmp.{first_so, second_so}
 
 -- ===== the ids that a cache can queue =====
 
@@ -96,9 +98,9 @@ module _ (m : Model) (ok : sound_model m ≡ true) (M : Entry) where
       let e = r.0 in
       let c = lookup_cached m (key i) e r.1 in
       let fit : entry_fits e ≡ true = cached_fits m ok (key i) e c in
-      let ps : list_all (previous_fits e.id) e.previous ≡ true = search (and_left, and_right) in
+      let ps : list_all (previous_fits e.id) e.previous ≡ true = search (first_so, second_so) in
       let q : previous_fits e.id p ≡ true = every_member (previous_fits e.id) e.previous ps r.2 in
-      let l : ltb p.seqno e.id.seqno ≡ true = search and_left in
+      let l : ltb p.seqno e.id.seqno ≡ true = search first_so in
       omega (arith, ltb-true p.seqno e.id.seqno l, c.at_its_seqno)
 
   abbrev ids₁ : List BlockId
@@ -187,11 +189,11 @@ module _ (m : Model) (ok : sound_model m ≡ true) (M : Entry) where
       omega (
         arith,
         few,
-        length_each row_shard (tails_of gs M),
+        length-map (tails_of gs M) row_shard,
         length-append (map id_shard (top_ids M)) (map model_shard gs),
-        length_each id_shard (top_ids M),
-        length_each top_id M.tops,
-        length_each model_shard gs,
+        length-map (top_ids M) id_shard,
+        length-map M.tops top_id,
+        length-map gs model_shard,
         tops_eight M fit,
         leb-true (length gs) 8 (parts m ok).rest.shards.count,
       )

@@ -10,10 +10,10 @@ use mathlib.Core.Path.{◌≡◌, ap, refl, subst, sym}
 use Prim.Native.Nat.{◌<◌, max, suc, zero, ℕ}
 use native.Mathlib.Omega.{arith}
 use Rattle.block_records.specs.declared.block_id.BlockId.{BlockId}
-use Rattle.block_records.proofs.arrays.ArrayLaws.{each_append}
 use Rattle.cache_rules.specs.Calls.{TailRow}
 use Rattle.cache_rules.specs.Model.{ShardModel}
 use Rattle.cache_rules.specs.TailIds.{Fifo, Waiting, fifo_end, fifo_next, gives, highest, levels, queues, waits}
+use Rattle.std.proofs.lemmas.List.{map-append}
 
 module _ {A B : Type 0} where
   pub flat_map_append : (f : A → List B) (xs ys : List A) → flat_map f (xs ++ ys) ≡ flat_map f xs ++ flat_map f ys
@@ -63,7 +63,7 @@ module _ (gs : List ShardModel) (m : ℕ)
       subst (λ (l : List BlockId). Fifo gs m (map (waits false) l) rows) (sym (append_assoc more q (flat_map (queues gs m as_top) ids))) f in
       let g = sweep as_top ids (more ++ q) rows f' in
       let e : map (waits as_top) ids ++ map (waits false) (more ++ q) ≡ (map (waits as_top) ids ++ map (waits false) more) ++ map (waits false) q =
-      rw (each_append (waits false) more q) (sym (append_assoc (map (waits as_top) ids) (map (waits false) more) (map (waits false) q))) in
+      rw (map-append (waits false) more q) (sym (append_assoc (map (waits as_top) ids) (map (waits false) more) (map (waits false) q))) in
       subst (λ (r : List TailRow). Fifo gs m (waits as_top i ∷ (map (waits as_top) ids ++ map (waits false) more)) r) (sym (append_assoc (gives gs m as_top i) (flat_map (gives gs m as_top) ids) rows))
       (fifo_next i as_top (map (waits as_top) ids ++ map (waits false) more) (flat_map (gives gs m as_top) ids ++ rows)
       (subst (λ (l : List Waiting). Fifo gs m l (flat_map (gives gs m as_top) ids ++ rows)) e g))

@@ -13,13 +13,14 @@ use Rattle.block_records.specs.declared.block_id.BlockId.{BlockId}
 use Rattle.block_records.specs.declared.block_id.ShardIdent.{ShardIdent}
 use Rattle.block_records.proofs.rules.BlockIdLaws.{id_level, id_order, same_shard_refl, same_shard_true, shard_level, shard_order}
 use Rattle.block_records.proofs.rules.ListLaws.{by_order, rising_put}
-use Rattle.block_records.proofs.rules.Tests.{and_intro, and_left, and_right, clash, on, some_not_none}
+use Rattle.block_records.proofs.rules.Tests.{and_intro, clash, on, some_not_none}
 use Rattle.block_records.specs.rules.BlockId.{id_shard, key, less_id, same_shard}
 use Rattle.block_records.specs.rules.Entry.{Entry}
 use Rattle.block_records.specs.rules.Lists.{put, rising}
 use Rattle.cache_rules.specs.Calls.{TailRow}
 use Rattle.cache_rules.specs.Model.{ShardModel, block_under}
 use Rattle.cache_rules.specs.TailIds.{found_gives, gives, hold, hold_over, less_option, tail_before}
+use Rattle.std.specs.Cmp.{first_so, second_so}
 
 -- ===== folds that do not look at order and number =====
 
@@ -124,8 +125,8 @@ none_later : (x : TailRow) (xs : List TailRow) → list_all (tail_before x) xs �
 none_later x [] h = refl
 none_later x (y ∷ xs) h =
     on (same_shard y.shard x.shard)
-    (λ t. clash (and_left (tail_before x y) (list_all (tail_before x) xs) h) (rw (same_shard_true y.shard x.shard t) (shard_order.irrefl x.shard)))
-    (λ t. rw t (none_later x xs (and_right (tail_before x y) (list_all (tail_before x) xs) h)))
+    (λ t. clash (first_so (tail_before x y) (list_all (tail_before x) xs) h) (rw (same_shard_true y.shard x.shard t) (shard_order.irrefl x.shard)))
+    (λ t. rw t (none_later x xs (second_so (tail_before x y) (list_all (tail_before x) xs) h)))
 
 -- what comes before the first is not there
 none_before : (x y : TailRow) (ys : List TailRow) → tail_before x y ≡ true → list_all (tail_before y) ys ≡ true → at_shard x.shard (y ∷ ys) ≡ None
@@ -134,7 +135,7 @@ none_before x y ys l h = none_later x (y ∷ ys) (and_intro l (weaken ys h))
     weaken : (zs : List TailRow) → list_all (tail_before y) zs ≡ true → list_all (tail_before x) zs ≡ true
     weaken [] k = refl
     weaken (z ∷ zs) k =
-        and_intro ((by_order shard_order tail_shard).trans x y z l (and_left (tail_before y z) (list_all (tail_before y) zs) k)) (weaken zs (and_right (tail_before y z) (list_all (tail_before y) zs) k))
+        and_intro ((by_order shard_order tail_shard).trans x y z l (first_so (tail_before y z) (list_all (tail_before y) zs) k)) (weaken zs (second_so (tail_before y z) (list_all (tail_before y) zs) k))
 
 first_at : (x : TailRow) (xs : List TailRow) → at_shard x.shard (x ∷ xs) ≡ Some x
 first_at x xs = rw (same_shard_refl x.shard)
@@ -151,8 +152,8 @@ same_rows [] [] h k e = refl
 same_rows [] (y ∷ ys) h k e = some_not_none (first_at y ys) (sym (e y.shard))
 same_rows (x ∷ xs) [] h k e = some_not_none (first_at x xs) (e x.shard)
 same_rows (x ∷ xs) (y ∷ ys) h k e =
-    let hx = and_left (list_all (tail_before x) xs) (rising tail_before xs) h in
-    let ky = and_left (list_all (tail_before y) ys) (rising tail_before ys) k in
+    let hx = first_so (list_all (tail_before x) xs) (rising tail_before xs) h in
+    let ky = first_so (list_all (tail_before y) ys) (rising tail_before ys) k in
     on (tail_before x y)
     (λ a. some_not_none (first_at x xs) (e x.shard ∙ none_before x y ys a ky))
     (λ a. on (tail_before y x)
@@ -163,7 +164,7 @@ same_rows (x ∷ xs) (y ∷ ys) h k e =
     let g : x ≡ y = cc in
     let ky' : list_all (tail_before x) ys ≡ true = subst (λ (z : TailRow). list_all (tail_before z) ys ≡ true) (sym g) ky in
     let r : xs ≡ ys =
-    same_rows xs ys (and_right (list_all (tail_before x) xs) (rising tail_before xs) h) (and_right (list_all (tail_before y) ys) (rising tail_before ys) k)
+    same_rows xs ys (second_so (list_all (tail_before x) xs) (rising tail_before xs) h) (second_so (list_all (tail_before y) ys) (rising tail_before ys) k)
     (λ s. tail_at s x xs ys hx ky' (e s ∙ subst (λ (z : TailRow). at_shard s (y ∷ ys) ≡ at_shard s (z ∷ ys)) (sym g) refl)) in
     cc))
 

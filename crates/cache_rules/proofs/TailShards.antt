@@ -14,7 +14,7 @@ use Rattle.block_records.specs.declared.block_id.ShardIdent.{ShardIdent}
 use Rattle.block_records.proofs.rules.BlockIdLaws.{shard_order}
 use Rattle.block_records.proofs.rules.Finds.{member_each}
 use Rattle.block_records.proofs.rules.ListLaws.{every_member}
-use Rattle.block_records.proofs.rules.Tests.{and_left, and_right, clash, on}
+use Rattle.block_records.proofs.rules.Tests.{clash, on}
 use Rattle.block_records.specs.rules.BlockId.{id_shard, key, less_shard}
 use Rattle.block_records.specs.rules.Entry.{Entry}
 use Rattle.block_records.specs.rules.Lists.{put, rising}
@@ -23,6 +23,7 @@ use Rattle.cache_rules.proofs.TailRows.{at_shard}
 use Rattle.cache_rules.specs.Calls.{TailRow}
 use Rattle.cache_rules.specs.Model.{ShardModel, block_under}
 use Rattle.cache_rules.specs.TailIds.{found_gives, gives, hold, hold_over, less_option, tail_before}
+use Rattle.std.specs.Cmp.{first_so, second_so}
 
 found_shard : (m : ℕ) (as_top : Bool) (i : BlockId) (o : Option Entry) {t : TailRow} → Memᴰ t (found_gives m as_top i o) →
     (t.shard ≡ id_shard i) × ((as_top ≡ true) ⊎ ((e : Entry) × (o ≡ Some e)))
@@ -100,8 +101,8 @@ rows_distinct [] h = tt
 rows_distinct (t ∷ rows) h = (
   (λ s u e.
       let r = member_each row_shard rows u in
-      let l : less_shard t.shard r.0.shard ≡ true = every_member (tail_before t) rows (and_left (list_all (tail_before t) rows) (rising tail_before rows) h) r.1 in
+      let l : less_shard t.shard r.0.shard ≡ true = every_member (tail_before t) rows (first_so (list_all (tail_before t) rows) (rising tail_before rows) h) r.1 in
       let q : t.shard ≡ r.0.shard = sym e ∙ r.2 in
       clash l (subst (λ (z : ShardIdent). less_shard t.shard z ≡ false) q (shard_order.irrefl t.shard))),
-  rows_distinct rows (and_right (list_all (tail_before t) rows) (rising tail_before rows) h),
+  rows_distinct rows (second_so (list_all (tail_before t) rows) (rising tail_before rows) h),
 )

@@ -1,4 +1,4 @@
-// Times calls on a cache that a script loads: bench/run measures with it. A line is a call, a line of a load or a `raw` line (docs/SCRIPTREPLAY.md), or `time N`: the call of the next line
+// Times calls on a cache that a script loads: bench/run measures with it. A line is a call, a line of a load or a `raw` line (docs/REPLAY.md), or `time N`: the call of the next line
 // is made N times, each time on the cache as it stands, its answer is printed once, and after it `time N calls T microseconds`, the processor time of the N calls alone.
 #![tactic(auto)]
 

@@ -9,13 +9,18 @@ use replay_text::input::Input;
 use replay_text::raw::Raw;
 use std::io::Read;
 
-// How often the next line's call is made is answered; 0 for once, untimed.
-fn run_command(timer: Timer, state: &mut State<'_>, cache: &mut Cache, command: &Command) -> u32 {
+// How often the next line's call is to be made, where this line says it.
+fn run_command(
+    timer: Timer,
+    state: &mut State<'_>,
+    cache: &mut Cache,
+    command: &Command,
+) -> Option<u32> {
     match command {
         Command::Call(call) => run_call(timer, state, cache, call),
         Command::Load => begin_load(state, cache),
         Command::Dumped(line) => load_line(state, cache, line),
-        Command::Time(times) => return *times,
+        Command::Time(times) => return Some(*times),
         // what looks at the cache or the slice is not of this program's language, nor are the other settings
         Command::Raw(Raw::Slice { .. })
         | Command::Look(_)
@@ -23,7 +28,7 @@ fn run_command(timer: Timer, state: &mut State<'_>, cache: &mut Cache, command: 
         | Command::Number(_) => state.complain_of_command(),
         Command::Raw(raw) => set_raw(cache, raw),
     }
-    0
+    None
 }
 
 fn run_line<R: Read>(
@@ -31,7 +36,7 @@ fn run_line<R: Read>(
     input: &mut Input<'_, '_, '_, R>,
     state: &mut State<'_>,
     cache: &mut Cache,
-) -> u32 {
+) -> Option<u32> {
     input.next_line();
     state.count_line();
     match input.command(state.is_loading()) {
@@ -39,7 +44,7 @@ fn run_line<R: Read>(
         Ok(None) => {}
         Ok(Some(command)) => return run_command(timer, state, cache, &command),
     }
-    0
+    None
 }
 
 pub fn run_script<R: Read>(
@@ -48,7 +53,8 @@ pub fn run_script<R: Read>(
     state: &mut State<'_>,
 ) {
     let mut cache = empty(0).cache;
-    let mut times = 0;
+    let mut times = None;
+    // A proved loop has to end; no input has so many lines.
     for _ in 0..u64::MAX {
         if input.has_ended() || state.out.is_broken() {
             break;

@@ -1,182 +1,169 @@
 // A call, timed, and its answer.
-use crate::clock::{microseconds, since};
-use block_records::entry::zero_entry;
+use crate::clock::processor_time;
+use block_records::entry::{BlockCacheEntry, zero_entry};
 use block_records::limits::{ARRAY_PLACES, SLICE_PLACES};
 use block_records::questions::Refusal;
 use blocks_cache::cache::Cache;
-use blocks_cache::collection::{
-    CacheChange, gc_prev_blocks, remove_next_collated_blocks_from_cache, set_gc_to_boundary,
-};
-use blocks_cache::peek::peek_front_applied_mc_block_subgraph;
-use blocks_cache::soundness::sound_cache;
-use blocks_cache::stores::{BlockCacheStoreResult, store_collated, store_received};
-use blocks_cache::subgraphs::{ArrayExtract, pop_to_array, sync_to_array};
-use blocks_cache::tail_ids::read_before_tail_ids_of_mc_block;
-use blocks_cache::validation::store_master_block_validation_result;
-use replay_calls::answers::{
-    change_answer, extract_answer, peek_answer, sound_answer, store_answer, tail_answer,
-    validation_answer,
-};
+use replay_calls::answers::{Extracted, Peeked, Stored, Tails, Validated, sound_answer};
 use replay_calls::calls::{make, validation_status};
 use replay_calls::state::State;
 use replay_text::commands::Call;
 use std::fmt;
+use std::time::Duration;
 
-// Makes calls, each so often, once where that is 0, and says how long that took.
+// Makes calls and says how long they took: so often, or once and in silence.
 #[derive(Clone, Copy)]
 pub struct Timer {
     pub clock: HostRuntime,
-    pub times: u32,
+    pub times: Option<u32>,
 }
 
-// What a call answered, and the microseconds that all of them took.
+// What a call answered, and what all of them took.
 #[derive(Clone, Copy)]
 struct Timed<T> {
     answer: T,
-    spent: u64,
-}
-
-// A closure in place of the call would cost one more copy of the cache each time.
-macro_rules! timed {
-    ($timer:expr, $call:expr) => {{
-        let start = microseconds($timer.clock);
-        for _ in 1..$timer.times {
-            let _ = $call;
-        }
-        let answer = $call;
-        let spent = since($timer.clock, start);
-        Timed { answer, spent }
-    }};
+    spent: Duration,
 }
 
 impl Timer {
+    // The call, made so often.
+    fn time<T: Copy, F: FnMut() -> T>(self, mut call: F) -> Timed<T>
+        requires { F.IsAlwaysCallable call }
+    {
+        let start = processor_time(self.clock);
+        for _ in 1..self.times.unwrap_or(1) {
+            let _ = call();
+        }
+        let answer = call();
+        let spent = processor_time(self.clock).saturating_sub(start);
+        Timed { answer, spent }
+    }
+
     // The answer, and the line about a timed call.
     fn answer<D: fmt::Display + Drop>(
         self,
         state: &mut State<'_>,
         answer: Result<D, Refusal>,
-        spent: u64,
+        spent: Duration,
     ) {
         state.answer(answer);
-        let times = self.times;
-        if times != 0 {
+        if let Some(times) = self.times {
+            let spent = spent.as_micros();
             state.print(format_args!("time {times} calls {spent} microseconds"));
         }
     }
 }
 
-fn put_stored(
-    timer: Timer,
-    state: &mut State<'_>,
-    cache: &mut Cache,
-    timed: Timed<BlockCacheStoreResult>,
-) {
-    timer.answer(state, store_answer(&timed.answer), timed.spent);
-    *cache = timed.answer.cache;
-}
-
-fn put_extracted(
-    timer: Timer,
-    state: &mut State<'_>,
-    cache: &mut Cache,
-    timed: Timed<ArrayExtract>,
-) {
-    timer.answer(state, extract_answer(&timed.answer), timed.spent);
-    *cache = timed.answer.extract.cache;
-}
-
-fn put_changed(timer: Timer, state: &mut State<'_>, cache: &mut Cache, timed: Timed<CacheChange>) {
-    timer.answer(state, change_answer(timed.answer.answer), timed.spent);
-    *cache = timed.answer.cache;
-}
-
-fn run_change(timer: Timer, state: &mut State<'_>, cache: &mut Cache, call: &Call) {
+// A call that changes the cache is made each time on the cache as it was given: that copy is timed with it.
+fn run_store(timer: Timer, state: &mut State<'_>, cache: &mut Cache, call: &Call) {
     let given = *cache;
     match *call {
         Call::StoreCollated(candidate) => {
-            put_stored(
-                timer,
+            let timed = timer.time(|| {
+                *cache = given;
+                cache.store_collated(candidate)
+            });
+            timer.answer(
                 state,
-                cache,
-                timed!(timer, store_collated(given, candidate)),
+                timed.answer.map(|stored| Stored(stored)),
+                timed.spent,
             );
         }
         Call::StoreReceived(block) => {
-            put_stored(
-                timer,
+            let timed = timer.time(|| {
+                *cache = given;
+                cache.store_received(block)
+            });
+            timer.answer(
                 state,
-                cache,
-                timed!(timer, store_received(given, block)),
+                timed.answer.map(|stored| Stored(stored)),
+                timed.spent,
             );
         }
         Call::Validation(id, verdict) => {
             let status = validation_status(verdict);
-            let timed = timed!(
-                timer,
-                store_master_block_validation_result(given, id, status)
-            );
-            timer.answer(state, validation_answer(timed.answer.answer), timed.spent);
-            *cache = timed.answer.cache;
-        }
-        Call::Boundary(keys) => {
-            put_changed(
-                timer,
+            let timed = timer.time(|| {
+                *cache = given;
+                cache.store_master_block_validation_result(id, status)
+            });
+            timer.answer(
                 state,
-                cache,
-                timed!(timer, set_gc_to_boundary(given, keys)),
+                timed.answer.map(|validated| Validated(validated)),
+                timed.spent,
             );
         }
-        Call::RemoveNext(keys) => {
-            let timed = timed!(timer, remove_next_collated_blocks_from_cache(given, keys));
-            put_changed(timer, state, cache, timed);
-        }
-        Call::Collect => put_changed(timer, state, cache, timed!(timer, gc_prev_blocks(given))),
         _ => {}
     }
+}
+
+fn run_collection(timer: Timer, state: &mut State<'_>, cache: &mut Cache, call: &Call) {
+    let given = *cache;
+    let timed = match *call {
+        Call::Boundary(keys) => timer.time(|| {
+            *cache = given;
+            cache.set_gc_to_boundary(keys)
+        }),
+        Call::RemoveNext(keys) => timer.time(|| {
+            *cache = given;
+            cache.remove_next_collated_blocks_from_cache(keys)
+        }),
+        Call::Collect => timer.time(|| {
+            *cache = given;
+            cache.gc_prev_blocks()
+        }),
+        _ => return,
+    };
+    timer.answer(state, timed.answer.map(|_| "done"), timed.spent);
 }
 
 fn run_extraction(timer: Timer, state: &mut State<'_>, cache: &mut Cache, call: &Call) {
     let given = *cache;
-    let blocks = [zero_entry(); ARRAY_PLACES];
-    match *call {
-        Call::Pop(from) => {
-            let timed = timed!(timer, pop_to_array(given, from, blocks, SLICE_PLACES));
-            put_extracted(timer, state, cache, timed);
-        }
-        Call::Sync(id) => {
-            let timed = timed!(timer, sync_to_array(given, id, blocks, SLICE_PLACES));
-            put_extracted(timer, state, cache, timed);
-        }
-        _ => {}
-    }
+    let mut blocks = [zero_entry(); ARRAY_PLACES];
+    let timed = match *call {
+        Call::Sync(id) => timer.time(|| {
+            *cache = given;
+            cache.sync_to_array(id, &mut blocks, SLICE_PLACES)
+        }),
+        Call::Pop(from) => timer.time(|| {
+            *cache = given;
+            cache.pop_to_array(from, &mut blocks, SLICE_PLACES)
+        }),
+        _ => return,
+    };
+    let blocks: &[BlockCacheEntry] = &blocks;
+    let answer = timed.answer.map(|extract| Extracted { extract, blocks });
+    timer.answer(state, answer, timed.spent);
 }
 
 // What leaves the cache as it is.
 fn run_look(timer: Timer, state: &mut State<'_>, cache: &Cache, call: &Call) {
-    let given = *cache;
     match *call {
         Call::Peek(from) => {
-            let timed = timed!(timer, peek_front_applied_mc_block_subgraph(given, from));
-            timer.answer(state, peek_answer(&timed.answer), timed.spent);
+            let timed = timer.time(|| cache.peek_front_applied_mc_block_subgraph(from));
+            timer.answer(state, timed.answer.map(|found| Peeked(found)), timed.spent);
         }
         Call::TailIds(key) => {
-            let timed = timed!(timer, read_before_tail_ids_of_mc_block(given, key));
-            timer.answer(state, tail_answer(&timed.answer), timed.spent);
+            let timed = timer.time(|| cache.read_before_tail_ids_of_mc_block(key));
+            timer.answer(state, timed.answer.map(|rows| Tails(rows)), timed.spent);
         }
         Call::Sound => {
-            let timed = timed!(timer, sound_cache(given));
-            timer.answer(state, sound_answer(timed.answer), timed.spent);
+            let timed = timer.time(|| cache.is_sound());
+            timer.answer(state, Ok(sound_answer(timed.answer)), timed.spent);
         }
         _ => {}
     }
 }
 
-// A new cache is made once, and not timed.
+// A new cache is made once, and not timed. Each kind of answer has a function of its own, which chooses among its calls once more: a closure that is handed
+// on to another did not prove.
 pub fn run_call(timer: Timer, state: &mut State<'_>, cache: &mut Cache, call: &Call) {
     match call {
         Call::New(zerostate) => make(state, cache, *zerostate),
         Call::Pop(_) | Call::Sync(_) => run_extraction(timer, state, cache, call),
         Call::Peek(_) | Call::TailIds(_) | Call::Sound => run_look(timer, state, cache, call),
-        _ => run_change(timer, state, cache, call),
+        Call::Boundary(_) | Call::RemoveNext(_) | Call::Collect => {
+            run_collection(timer, state, cache, call);
+        }
+        _ => run_store(timer, state, cache, call),
     }
 }

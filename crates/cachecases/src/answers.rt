@@ -1,16 +1,23 @@
 // What the cases expect answers to be.
+use block_records::block_id::BlockId;
 use block_records::entry::MasterBlock;
 use block_records::questions::Refusal;
 use block_records::range::AppliedRange;
-use blocks_cache::extraction::ExtractAnswer;
-use blocks_cache::subgraphs::ArrayExtract;
-use blocks_group::store::StoreAnswer;
+use blocks_cache::extraction::{McBlockSubgraph, SubgraphExtract};
+use blocks_cache::stores::BlockCacheStoreResult;
 
-// A store that is made, with its two flags.
-pub fn stored(received_and_collated: bool, block_mismatch: bool) -> Result<StoreAnswer, Refusal> {
-    Ok(StoreAnswer::Stored {
+// A store that is made, with its two flags, the last collated id and the range.
+pub fn stored(
+    received_and_collated: bool,
+    block_mismatch: bool,
+    last: Option<BlockId>,
+    range: Option<AppliedRange>,
+) -> Result<BlockCacheStoreResult, Refusal> {
+    Ok(BlockCacheStoreResult::Stored {
         received_and_collated,
         block_mismatch,
+        last_collated_mc_block_id: last,
+        applied_mc_queue_range: range,
     })
 }
 
@@ -20,22 +27,16 @@ pub fn range(start: u32, end: u32) -> Option<AppliedRange> {
 }
 
 // A master handed out whole, how many blocks beside it and how many ids taken, and whether it was the last.
-#[derive(Clone, Copy, PartialEq)]
-pub struct Popped {
-    pub master: MasterBlock,
-    pub joined: usize,
-    pub taken: usize,
-    pub last: bool,
-}
-
-pub fn handed_out(out: &ArrayExtract) -> Option<Popped> {
-    match out.extract.answer {
-        Ok(ExtractAnswer::Popped { last }) => Some(Popped {
-            master: out.extract.master,
-            joined: out.extract.joined,
-            taken: out.extract.taken,
-            last,
-        }),
-        _ => None,
-    }
+pub fn popped(
+    master: MasterBlock,
+    joined: usize,
+    taken: usize,
+    last: bool,
+) -> Result<SubgraphExtract, Refusal> {
+    let subgraph = McBlockSubgraph {
+        master,
+        joined,
+        taken,
+    };
+    Ok(SubgraphExtract::Popped { subgraph, last })
 }

@@ -1,80 +1,71 @@
 // RULES.md, Case table: C12 to C14, one function each; the cache that each leaves is compared whole.
-use crate::answers::{Popped, handed_out, range};
+use crate::answers::{popped, range};
 use crate::expected::{
     bare_cache, cache, collated_block, entry, fresh, group, master_data, received_master,
     shard_group, with_shards,
 };
 use crate::ids::{after, high, low, mc, sc, top, tops};
-use crate::outcome::{Outcome, expect};
-use crate::trial::Trial;
+use crate::outcome::{Outcome, Unexpected, expect};
+use crate::places::padded;
+use crate::trial::{Trial, lent};
 use block_records::block_id::BlockId;
-use block_records::store_records::zero_prev_ids;
+use block_records::entry::zero_entry;
+use block_records::store_records::{PrevIds, zero_prev_ids};
 use blocks_cache::cache::Cache;
 use blocks_cache::tail_ids::TailIdsRow;
 
 // Three collated shard blocks in a row, of which s1 names m4, s2 and s3 m5; and m5, received with s3 as its updated top.
-fn chain() -> Trial {
+fn chain() -> Result<Trial, Unexpected> {
     let mut trial = Trial::new();
-    trial.collate(sc(1), 4, zero_prev_ids());
-    trial.collate(sc(2), 5, after(sc(1)));
-    trial.collate(sc(3), 5, after(sc(2)));
-    trial.receive(mc(5), tops(&[top(sc(3))]));
-    trial
+    expect(trial.collate(sc(1), 4, zero_prev_ids()).is_ok())?;
+    expect(trial.collate(sc(2), 5, after(sc(1))).is_ok())?;
+    expect(trial.collate(sc(3), 5, after(sc(2))).is_ok())?;
+    expect(trial.receive(mc(5), tops(&[top(sc(3))])).is_ok())?;
+    Ok(trial)
 }
 
 // A pop hands out s2 and s3 with m5, and takes 3 ids; s1 is dropped, and the shard's mark is that of s3.
 pub fn c12() -> Outcome {
-    let mut trial = chain();
-    let out = trial.pop(0);
-    let whole = Popped {
-        master: received_master(mc(5), tops(&[top(sc(3))])),
-        joined: 2,
-        taken: 3,
-        last: true,
-    };
-    expect(handed_out(&out) == Some(whole))?;
-    expect(
-        out.blocks.starts_with(&[
-            collated_block(sc(2), after(sc(1))),
-            collated_block(sc(3), after(sc(2))),
-        ]),
-    )?;
+    let mut trial = chain()?;
+    let mut out = lent();
+    let m5 = received_master(mc(5), tops(&[top(sc(3))]));
+    expect(trial.pop(0, &mut out) == popped(m5, 2, 3, true))?;
+    let joined = [
+        collated_block(sc(2), after(sc(1))),
+        collated_block(sc(3), after(sc(2))),
+    ];
+    expect(out == padded(&joined, zero_entry()))?;
     let masters = bare_cache(group(&[], Some(5)), master_data(&[], None));
     let shards = [shard_group(sc(1), group(&[], Some(3)))];
     trial.leaves(&with_shards(masters, &shards))
 }
 
 // A shard split: after p4 come l5 on the left, and r5 and r6 on the right, all naming m5; and m5, received with l5 and r6 as its updated tops.
-fn split() -> Trial {
+fn split() -> Result<Trial, Unexpected> {
     let mut trial = Trial::new();
-    trial.collate(sc(4), 5, zero_prev_ids());
-    trial.collate(low(5), 5, after(sc(4)));
-    trial.collate(high(5), 5, after(sc(4)));
-    trial.collate(high(6), 5, after(high(5)));
-    trial.receive(mc(5), tops(&[top(low(5)), top(high(6))]));
-    trial
+    expect(trial.collate(sc(4), 5, zero_prev_ids()).is_ok())?;
+    expect(trial.collate(low(5), 5, after(sc(4))).is_ok())?;
+    expect(trial.collate(high(5), 5, after(sc(4))).is_ok())?;
+    expect(trial.collate(high(6), 5, after(high(5))).is_ok())?;
+    let both = tops(&[top(low(5)), top(high(6))]);
+    expect(trial.receive(mc(5), both).is_ok())?;
+    Ok(trial)
 }
 
 // A pop hands out all four, the newest join first, and takes 5 ids: p4 was queued twice. The marks are 5, 4 and 6.
 pub fn c13() -> Outcome {
-    let mut trial = split();
-    let out = trial.pop(0);
-    let whole = Popped {
-        master: received_master(mc(5), tops(&[top(low(5)), top(high(6))])),
-        joined: 4,
-        taken: 5,
-        last: true,
-    };
-    expect(handed_out(&out) == Some(whole))?;
+    let mut trial = split()?;
+    let mut out = lent();
+    let m5 = received_master(mc(5), tops(&[top(low(5)), top(high(6))]));
+    expect(trial.pop(0, &mut out) == popped(m5, 4, 5, true))?;
     // r5, p4, r6, l5
-    expect(
-        out.blocks.starts_with(&[
-            collated_block(high(5), after(sc(4))),
-            collated_block(sc(4), zero_prev_ids()),
-            collated_block(high(6), after(high(5))),
-            collated_block(low(5), after(sc(4))),
-        ]),
-    )?;
+    let joined = [
+        collated_block(high(5), after(sc(4))),
+        collated_block(sc(4), zero_prev_ids()),
+        collated_block(high(6), after(high(5))),
+        collated_block(low(5), after(sc(4))),
+    ];
+    expect(out == padded(&joined, zero_entry()))?;
     let masters = bare_cache(group(&[], Some(5)), master_data(&[], None));
     let shards = [
         shard_group(low(5), group(&[], Some(5))),
@@ -84,19 +75,21 @@ pub fn c13() -> Outcome {
     trial.leaves(&with_shards(masters, &shards))
 }
 
-// A row under an id, with these previous ids.
-fn is_row(row: &TailIdsRow, id: BlockId, prev_ids: &[BlockId]) -> bool {
-    row.id == Some(id) && row.prev_ids.listed() == prev_ids
+// The row of an id, with these previous ids.
+fn row(id: BlockId, prev_ids: PrevIds) -> TailIdsRow {
+    TailIdsRow {
+        shard: id.shard,
+        id: Some(id),
+        prev_ids,
+    }
 }
 
 // The tail ids of that m5: its own row without previous ids, and for the shard that of s2, which follows s1. The cache is as it was.
 pub fn c14() -> Outcome {
-    let trial = chain();
+    let trial = chain()?;
+    let rows = [row(mc(5), zero_prev_ids()), row(sc(2), after(sc(1)))];
     let tail_ids = trial.tail_ids(mc(5).as_short_id());
-    expect(tail_ids.answer.is_ok())?;
-    expect(tail_ids.tails.count == 2)?;
-    expect(is_row(&tail_ids.tails.items[0], mc(5), &[]))?;
-    expect(is_row(&tail_ids.tails.items[1], sc(2), &[sc(1)]))?;
+    expect(tail_ids.map(|found| found.listed() == rows.as_slice()) == Ok(true))?;
     trial.leaves(&chained())
 }
 

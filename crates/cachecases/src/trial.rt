@@ -1,20 +1,24 @@
 // A cache, and the table's calls on it.
 use crate::outcome::{Outcome, expect};
 use block_records::block_id::{BlockId, BlockIdShort};
-use block_records::entry::zero_entry;
-use block_records::limits::{ARRAY_PLACES, SLICE_PLACES};
+use block_records::entry::{BlockCacheEntry, zero_entry};
+use block_records::limits::SLICE_PLACES;
 use block_records::questions::Refusal;
 use block_records::store_records::{BlockCandidate, Keys, PrevIds, ReceivedBlock, zero_prev_ids};
 use block_records::top_block::{TopBlocks, zero_tops};
 use blocks_cache::cache::{Cache, empty};
-use blocks_cache::collection::{gc_prev_blocks, set_gc_to_boundary};
-use blocks_cache::peek::{Peek, peek_front_applied_mc_block_subgraph};
-use blocks_cache::stores::{BlockCacheStoreResult, store_collated, store_received};
-use blocks_cache::subgraphs::{ArrayExtract, pop_to_array, sync_to_array};
-use blocks_cache::tail_ids::{TailIds, read_before_tail_ids_of_mc_block};
-use blocks_cache::validation::{
-    ValidationResult, ValidationStatus, store_master_block_validation_result,
-};
+use blocks_cache::extraction::SubgraphExtract;
+use blocks_cache::peek::Peek;
+use blocks_cache::stores::BlockCacheStoreResult;
+use blocks_cache::tail_ids::TailRows;
+use blocks_cache::validation::{ValidationAnswer, ValidationStatus};
+
+// A slice of 128 places.
+pub type Lent = [BlockCacheEntry; SLICE_PLACES];
+
+pub fn lent() -> Lent {
+    [zero_entry(); SLICE_PLACES]
+}
 
 // The zerostate's seqno is 0.
 pub fn new() -> Cache {
@@ -42,7 +46,7 @@ impl Trial {
         id: BlockId,
         reference: u32,
         prev_ids: PrevIds,
-    ) -> BlockCacheStoreResult {
+    ) -> Result<BlockCacheStoreResult, Refusal> {
         let candidate = BlockCandidate {
             block_id: id,
             ref_by_mc_seqno: reference,
@@ -52,18 +56,20 @@ impl Trial {
             processed_to_anchor: 0,
             payload: 0,
         };
-        let store = store_collated(self.cache, candidate);
-        self.cache = store.cache;
-        store
+        self.cache.store_collated(candidate)
     }
 
     // With no previous id.
-    pub fn collate_alone(&mut self, id: BlockId) -> BlockCacheStoreResult {
+    pub fn collate_alone(&mut self, id: BlockId) -> Result<BlockCacheStoreResult, Refusal> {
         self.collate(id, 5, zero_prev_ids())
     }
 
     // A master is its own reference block.
-    pub fn receive(&mut self, id: BlockId, top_blocks: TopBlocks) -> BlockCacheStoreResult {
+    pub fn receive(
+        &mut self,
+        id: BlockId,
+        top_blocks: TopBlocks,
+    ) -> Result<BlockCacheStoreResult, Refusal> {
         let received = ReceivedBlock {
             block_id: id,
             ref_block_id: id,
@@ -72,52 +78,44 @@ impl Trial {
             top_anchor: None,
             payload: 0,
         };
-        let store = store_received(self.cache, received);
-        self.cache = store.cache;
-        store
+        self.cache.store_received(received)
     }
 
     // With no top item.
-    pub fn receive_alone(&mut self, id: BlockId) -> BlockCacheStoreResult {
+    pub fn receive_alone(&mut self, id: BlockId) -> Result<BlockCacheStoreResult, Refusal> {
         self.receive(id, zero_tops())
     }
 
-    pub fn validate(&mut self, id: BlockId, status: ValidationStatus) -> ValidationResult {
-        let validated = store_master_block_validation_result(self.cache, id, status);
-        self.cache = validated.cache;
-        validated
+    pub fn validate(
+        &mut self,
+        id: BlockId,
+        status: ValidationStatus,
+    ) -> Result<ValidationAnswer, Refusal> {
+        self.cache.store_master_block_validation_result(id, status)
     }
 
     pub fn set_boundary(&mut self, keys: Keys) -> Result<(), Refusal> {
-        let change = set_gc_to_boundary(self.cache, keys);
-        self.cache = change.cache;
-        change.answer
+        self.cache.set_gc_to_boundary(keys)
     }
 
     pub fn collect(&mut self) -> Result<(), Refusal> {
-        let change = gc_prev_blocks(self.cache);
-        self.cache = change.cache;
-        change.answer
+        self.cache.gc_prev_blocks()
     }
 
-    pub fn tail_ids(&self, short: BlockIdShort) -> TailIds {
-        read_before_tail_ids_of_mc_block(self.cache, short)
+    pub fn tail_ids(&self, short: BlockIdShort) -> Result<TailRows, Refusal> {
+        self.cache.read_before_tail_ids_of_mc_block(short)
     }
 
-    pub fn peek(&self, from: u32) -> Peek {
-        peek_front_applied_mc_block_subgraph(self.cache, from)
+    pub fn peek(&self, from: u32) -> Result<Option<Peek>, Refusal> {
+        self.cache.peek_front_applied_mc_block_subgraph(from)
     }
 
-    // With a slice of 128 places.
-    pub fn pop(&mut self, from: u32) -> ArrayExtract {
-        let out = pop_to_array(self.cache, from, [zero_entry(); ARRAY_PLACES], SLICE_PLACES);
-        self.cache = out.extract.cache;
-        out
+    // The blocks that are handed out stand at the front of what is lent.
+    pub fn pop(&mut self, from: u32, out: &mut Lent) -> Result<SubgraphExtract, Refusal> {
+        self.cache.pop_front_applied_mc_block_subgraph(from, out)
     }
 
-    pub fn sync(&mut self, id: BlockId) -> ArrayExtract {
-        let out = sync_to_array(self.cache, id, [zero_entry(); ARRAY_PLACES], SLICE_PLACES);
-        self.cache = out.extract.cache;
-        out
+    pub fn sync(&mut self, id: BlockId, out: &mut Lent) -> Result<SubgraphExtract, Refusal> {
+        self.cache.extract_mc_block_subgraph_for_sync(id, out)
     }
 }

@@ -1,45 +1,33 @@
 // Replays a script of calls on the block cache: docs/REPLAY.md.
 #![tactic(auto)]
 
-mod answers;
-mod calls;
-mod commands;
-mod dump;
-mod expected;
-mod graph;
-mod help;
-mod input;
-mod load;
-mod output;
-mod parts;
-mod raw;
-mod read;
-mod records;
-mod replay;
-mod scan;
-mod spell;
-mod times;
+mod options;
+mod report;
+mod run;
 
-use input::{Line, Reader};
-use output::Output;
-use replay::Replay;
+use options::{Source, open_source};
+use replay_calls::state::State;
+use replay_text::input::Input;
+use replay_text::output::Output;
+use report::report;
+use run::run_script;
+use std::io::Read;
+
+fn replay<R: Read>(rt: HostRuntime, source: &mut R) {
+    let mut buffer = [0u8; 16384];
+    let mut line = [0u8; 8192];
+    let mut printed = [0u8; 16384];
+    let mut input = Input::new(source, &mut buffer, &mut line);
+    let mut state = State::new(Output::new(&mut printed));
+    run_script(&mut input, &mut state);
+    report(rt, input.error(), &mut state);
+}
 
 fn main(rt: HostRuntime) {
-    let mut input = io::large_buffer();
-    let mut buffer = io::large_buffer();
-    let mut line = Line::empty();
-    let mut reader = Reader::new(rt.stdin(), &mut input);
-    let mut replay = Replay::new(rt, Output::new(&mut buffer));
-    for _ in 0..u64::MAX {
-        if reader.has_ended() {
-            break;
-        }
-        // where the next read may wait, the answers go out before it
-        if reader.is_drained() {
-            replay.out.flush();
-        }
-        reader.next_line(&mut line);
-        replay.run(line.get());
+    let mut path = io::buffer();
+    match open_source(rt, &mut path) {
+        None => {}
+        Some(Source::Input) => replay(rt, &mut rt.stdin()),
+        Some(Source::Script(mut script)) => replay(rt, &mut script),
     }
-    replay.out.flush();
 }

@@ -1,23 +1,14 @@
 // The calls, made on the cache, and their answers.
-use crate::answers::{
-    change_answer, extract_answer, new_answer, peek_answer, sound_answer, store_answer,
-    tail_answer, validation_answer,
-};
+use crate::answers::{Extracted, Peeked, Stored, Tails, Validated, sound_answer};
 use crate::state::State;
 use block_records::block_id::{BlockId, BlockIdShort};
 use block_records::entry::BlockCacheEntry;
 use block_records::limits::ARRAY_PLACES;
+use block_records::questions::Refusal;
 use block_records::store_records::{BlockCandidate, Keys, ReceivedBlock};
 use blocks_cache::cache::{Cache, empty};
-use blocks_cache::collection::{
-    CacheChange, gc_prev_blocks, remove_next_collated_blocks_from_cache, set_gc_to_boundary,
-};
-use blocks_cache::peek::peek_front_applied_mc_block_subgraph;
-use blocks_cache::soundness::sound_cache;
-use blocks_cache::stores::{store_collated, store_received};
-use blocks_cache::subgraphs::{ArrayExtract, pop_to_array, sync_to_array};
-use blocks_cache::tail_ids::read_before_tail_ids_of_mc_block;
-use blocks_cache::validation::{ValidationStatus, store_master_block_validation_result};
+use blocks_cache::extraction::SubgraphExtract;
+use blocks_cache::validation::ValidationStatus;
 use replay_text::commands::Call;
 use replay_text::records::Verdict;
 
@@ -28,25 +19,22 @@ pub type Blocks = [BlockCacheEntry; ARRAY_PLACES];
 #[inline(never)]
 pub fn make(state: &mut State<'_>, cache: &mut Cache, zerostate: u32) {
     let new = empty(zerostate);
-    let answer = new_answer(new.answer);
-    if answer.is_ok() {
+    if new.answer.is_ok() {
         *cache = new.cache;
     }
-    state.answer(answer);
+    state.answer(new.answer.map(|_| "made"));
 }
 
 #[inline(never)]
 fn collated(state: &mut State<'_>, cache: &mut Cache, candidate: &BlockCandidate) {
-    let result = store_collated(*cache, *candidate);
-    state.answer(store_answer(&result));
-    *cache = result.cache;
+    let answer = cache.store_collated(*candidate);
+    state.answer(answer.map(|stored| Stored(stored)));
 }
 
 #[inline(never)]
 fn received(state: &mut State<'_>, cache: &mut Cache, block: &ReceivedBlock) {
-    let result = store_received(*cache, *block);
-    state.answer(store_answer(&result));
-    *cache = result.cache;
+    let answer = cache.store_received(*block);
+    state.answer(answer.map(|stored| Stored(stored)));
 }
 
 pub fn validation_status(verdict: Verdict) -> ValidationStatus {
@@ -64,69 +52,57 @@ pub fn validation_status(verdict: Verdict) -> ValidationStatus {
 
 #[inline(never)]
 fn validate(state: &mut State<'_>, cache: &mut Cache, id: BlockId, verdict: Verdict) {
-    let status = validation_status(verdict);
-    let result = store_master_block_validation_result(*cache, id, status);
-    state.answer(validation_answer(result.answer));
-    *cache = result.cache;
-}
-
-fn change(state: &mut State<'_>, cache: &mut Cache, outcome: &CacheChange) {
-    state.answer(change_answer(outcome.answer));
-    *cache = outcome.cache;
+    let answer = cache.store_master_block_validation_result(id, validation_status(verdict));
+    state.answer(answer.map(|validated| Validated(validated)));
 }
 
 #[inline(never)]
 fn set_boundary(state: &mut State<'_>, cache: &mut Cache, keys: &Keys) {
-    change(state, cache, &set_gc_to_boundary(*cache, *keys));
+    state.answer(cache.set_gc_to_boundary(*keys).map(|_| "done"));
 }
 
 #[inline(never)]
 fn collect(state: &mut State<'_>, cache: &mut Cache) {
-    change(state, cache, &gc_prev_blocks(*cache));
+    state.answer(cache.gc_prev_blocks().map(|_| "done"));
 }
 
 #[inline(never)]
 fn remove_next(state: &mut State<'_>, cache: &mut Cache, keys: &Keys) {
-    change(
-        state,
-        cache,
-        &remove_next_collated_blocks_from_cache(*cache, *keys),
-    );
+    let answer = cache.remove_next_collated_blocks_from_cache(*keys);
+    state.answer(answer.map(|_| "done"));
 }
 
-fn extract(state: &mut State<'_>, cache: &mut Cache, blocks: &mut Blocks, got: &ArrayExtract) {
-    state.answer(extract_answer(got));
-    *blocks = got.blocks;
-    *cache = got.extract.cache;
+fn extracted(state: &mut State<'_>, blocks: &Blocks, answer: Result<SubgraphExtract, Refusal>) {
+    state.answer(answer.map(|extract| Extracted { extract, blocks }));
 }
 
 #[inline(never)]
 fn pop(state: &mut State<'_>, cache: &mut Cache, blocks: &mut Blocks, from: u32) {
-    let got = pop_to_array(*cache, from, *blocks, state.places);
-    extract(state, cache, blocks, &got);
+    let answer = cache.pop_to_array(from, blocks, state.places);
+    extracted(state, blocks, answer);
 }
 
 #[inline(never)]
 fn sync(state: &mut State<'_>, cache: &mut Cache, blocks: &mut Blocks, id: BlockId) {
-    let got = sync_to_array(*cache, id, *blocks, state.places);
-    extract(state, cache, blocks, &got);
+    let answer = cache.sync_to_array(id, blocks, state.places);
+    extracted(state, blocks, answer);
 }
 
 #[inline(never)]
 fn peek(state: &mut State<'_>, cache: &Cache, from: u32) {
-    let found = peek_front_applied_mc_block_subgraph(*cache, from);
-    state.answer(peek_answer(&found));
+    let answer = cache.peek_front_applied_mc_block_subgraph(from);
+    state.answer(answer.map(|found| Peeked(found)));
 }
 
 #[inline(never)]
 fn tail_ids(state: &mut State<'_>, cache: &Cache, key: BlockIdShort) {
-    let ids = read_before_tail_ids_of_mc_block(*cache, key);
-    state.answer(tail_answer(&ids));
+    let answer = cache.read_before_tail_ids_of_mc_block(key);
+    state.answer(answer.map(|rows| Tails(rows)));
 }
 
 #[inline(never)]
 fn sound(state: &mut State<'_>, cache: &Cache) {
-    state.answer(sound_answer(sound_cache(*cache)));
+    state.answer(Ok(sound_answer(cache.is_sound())));
 }
 
 // A function pays at entry for the size of its locals: each call stands in one of its own, out of line.

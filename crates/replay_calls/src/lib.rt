@@ -1,4 +1,4 @@
-// The lines of the replay's language made on the cache, and the answers (docs/SCRIPTREPLAY.md).
+// The lines of the replay's language made on the cache, and the answers (docs/REPLAY.md).
 #![tactic(auto)]
 
 pub mod answers;

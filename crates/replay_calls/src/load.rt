@@ -1,10 +1,10 @@
 // The lines of a load: each goes to the next free place of its list.
-use crate::raw::{set_marks, zero_cache};
+use crate::raw::set_marks;
 use crate::state::State;
 use block_records::block_id::ShardIdent;
 use block_records::entry::MasterBlock;
 use block_records::listed::Listed;
-use blocks_cache::cache::{Cache, ShardGroup};
+use blocks_cache::cache::{Cache, ShardGroup, empty};
 use blocks_group::group::Group;
 use replay_text::dumped::{Dumped, Marks};
 use replay_text::raw::GroupPlace;
@@ -12,7 +12,7 @@ use replay_text::unexpected::{Expected, Unexpected};
 
 // `load` itself.
 pub fn begin_load(state: &mut State<'_>, cache: &mut Cache) {
-    *cache = zero_cache();
+    *cache = empty(0).cache;
     state.begin_load();
 }
 
@@ -22,8 +22,7 @@ fn add<T: Copy, const N: usize>(list: &mut Listed<T, N>, item: T) -> Result<usiz
     if N <= place {
         return Err(Expected::Room);
     }
-    list.items[place] = item;
-    list.count = place + 1;
+    list.push(item);
     Ok(place)
 }
 

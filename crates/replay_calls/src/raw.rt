@@ -1,26 +1,10 @@
 // A record of the cache set as it stands, tested in no way.
-use block_records::block_id::zero_id;
 use block_records::entry::BlockCacheEntry;
-use block_records::listed::Listed;
 use block_records::top_block::TopBlocks;
-use blocks_cache::cache::{Cache, zero_shard_group};
-use blocks_cache::master_data::MasterData;
+use blocks_cache::cache::{Cache, empty};
 use blocks_group::group::Group;
 use replay_text::dumped::Marks;
 use replay_text::raw::{GroupPlace, Raw, RawGroup};
-
-pub fn zero_cache() -> Cache {
-    let data = MasterData {
-        ids: Listed::empty(zero_id()),
-        range: None,
-    };
-    Cache {
-        zerostate_mc_seqno: 0,
-        masters: Group::empty(),
-        data,
-        shards: Listed::empty(zero_shard_group()),
-    }
-}
 
 pub fn set_marks<B>(group: &mut Group<B>, marks: &Marks) {
     group.mark = marks.mark;
@@ -76,7 +60,7 @@ fn set_tops(cache: &mut Cache, place: usize, tops: &TopBlocks) {
 // A place of the slice is none of the cache.
 pub fn set_raw(cache: &mut Cache, raw: &Raw) {
     match raw {
-        Raw::Zero => *cache = zero_cache(),
+        Raw::Zero => *cache = empty(0).cache,
         Raw::Head {
             zerostate,
             range,

@@ -51,6 +51,7 @@ pub enum Command {
     Time(u32),
 }
 
+// The names are tried in turn, in no table: one may have two words (`dump raw`), and what follows it is read at once.
 fn read_store(scanner: &mut Scanner<'_>) -> Result<Option<Call>, Unexpected> {
     let call = if scanner.takes_name("store_collated") {
         Call::StoreCollated(read_candidate(scanner)?)
@@ -112,14 +113,14 @@ fn read_look(scanner: &mut Scanner<'_>) -> Result<Option<Look>, Unexpected> {
 
 fn read_slice(scanner: &mut Scanner<'_>) -> Result<Command, Unexpected> {
     scanner.text(" ")?;
-    let places = scanner.number(0, ARRAY_PLACES as u64, Expected::Slice)?;
-    Ok(Command::Slice(places as usize))
+    let places = scanner.number(0, ARRAY_PLACES, Expected::Slice)?;
+    Ok(Command::Slice(places))
 }
 
 fn read_time(scanner: &mut Scanner<'_>) -> Result<Command, Unexpected> {
     scanner.text(" ")?;
-    let times = scanner.number(1, u32::MAX as u64, Expected::Times)?;
-    Ok(Command::Time((times & 0xffff_ffff) as u32))
+    let times = scanner.number(1, u32::MAX, Expected::Times)?;
+    Ok(Command::Time(times))
 }
 
 // A line outside a load, but a call or one that looks.

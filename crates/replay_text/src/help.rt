@@ -1,4 +1,4 @@
-// The language in short; docs/SCRIPTREPLAY.md has it whole.
+// The language in short; docs/REPLAY.md has it whole.
 use crate::questions::Questions;
 use std::fmt;
 

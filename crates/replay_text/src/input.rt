@@ -1,4 +1,4 @@
-// The script, line by line.
+// The script, line by line. The buffers are lent and of a fixed size: std's `BufReader` asks for memory.
 use crate::commands::{Command, read_line};
 use crate::unexpected::{Expected, Unexpected};
 use std::io::Read;
@@ -71,6 +71,7 @@ impl<'source, 'buffer, 'line, R: Read> Input<'source, 'buffer, 'line, R> {
     pub fn next_line(&mut self) {
         self.length = 0;
         self.complete = false;
+        // A proved loop has to end; no line takes so many reads.
         for _ in 0..u64::MAX {
             if self.complete || self.ended {
                 break;

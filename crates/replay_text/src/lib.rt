@@ -1,4 +1,4 @@
-// The replay's language: the lines that it has, their reading and their printing (docs/SCRIPTREPLAY.md).
+// The replay's language: the lines that it has, their reading and their printing (docs/REPLAY.md).
 #![tactic(auto)]
 
 pub mod commands;

@@ -1,7 +1,7 @@
-// What is printed goes through a buffer that the caller lends; a full buffer is written out.
+// What is printed goes through a buffer that the caller lends; a full buffer is written out. std's `BufWriter` asks for memory.
 use std::fmt;
 
-// The descriptor of standard output.
+// The descriptor of standard output: `io::write_all` takes it, and tells whether all went out.
 const STDOUT_FILENO: i32 = 1;
 
 #[derive(Drop)]

@@ -10,14 +10,14 @@ use block_records::range::AppliedRange;
 use block_records::top_block::TopBlocks;
 use std::fmt;
 
-// A group of the cache: the masters', or the shard's of a place, 0 to 7.
+// A group of the cache: the masters', or the shard's of a place, 0 to 7. As an Option the masters' group would be the lack of a place.
 #[derive(Clone, Copy)]
 pub enum GroupPlace {
     Masters,
     Shard(usize),
 }
 
-// The masters' group has no shard.
+// The same with the shard that is set; the masters' group has none.
 #[derive(Clone, Copy)]
 pub enum RawGroup {
     Masters,

@@ -7,7 +7,7 @@ use block_records::listed::Listed;
 use block_records::store_records::{BlockCandidate, ReceivedBlock};
 use std::fmt;
 
-// The result of a validation: how many signatures and which weight they have, nothing where it was skipped.
+// The result of a validation: how many signatures and which weight they have; skipped is an outcome with a name of its own, not the lack of one.
 #[derive(Clone, Copy)]
 pub enum Verdict {
     Complete { signatures: u64, total_weight: u64 },

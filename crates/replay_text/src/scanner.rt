@@ -170,18 +170,26 @@ impl<'a> Scanner<'a> {
     }
 
     // A number in decimal from `least` to `most`.
-    pub fn number(&mut self, least: u64, most: u64, expected: Expected) -> Result<u64, Unexpected> {
+    pub fn number<T: TryFrom<u64> + PartialOrd + Copy>(
+        &mut self,
+        least: T,
+        most: T,
+        expected: Expected,
+    ) -> Result<T, Unexpected>
+    where
+        <T as TryFrom<u64>>::Error: Drop,
+    {
         let missing = self.unexpected(expected);
-        match self.decimal() {
-            Some(value) if least <= value && value <= most => Ok(value),
-            _ => Err(missing),
-        }
+        self.decimal()
+            .and_then(|value| T::try_from(value).ok())
+            .filter(|value| least <= *value && *value <= most)
+            .ok_or(missing)
     }
 
     // A place of a list that has so many.
     pub fn place(&mut self, places: u8, expected: Expected) -> Result<usize, Unexpected> {
-        let place = self.number(0, (places as u64).saturating_sub(1), expected)?;
-        Ok(place as usize)
+        let place = self.number(0, places.saturating_sub(1), expected)?;
+        Ok(usize::from(place))
     }
 
     // A number of 32 bits, with a minus where it is below 0. There is no -0.

@@ -12,6 +12,7 @@ use std::fmt;
 pub trait Spelled: Copy {
     fn read(scanner: &mut Scanner<'_>) -> Result<Self, Unexpected>;
 
+    // Written for each type: options and lists are spelled too and have no Display, so none can be asked for here.
     fn print<W: fmt::Write>(&self, f: &mut fmt::Formatter<W>) -> fmt::Result;
 }
 
@@ -37,8 +38,7 @@ impl Scanner<'_> {
 
 impl Spelled for u32 {
     fn read(scanner: &mut Scanner<'_>) -> Result<Self, Unexpected> {
-        let value = scanner.number(0, u32::MAX as u64, Expected::Number32)?;
-        Ok((value & 0xffff_ffff) as u32)
+        scanner.number(0, u32::MAX, Expected::Number32)
     }
 
     fn print<W: fmt::Write>(&self, f: &mut fmt::Formatter<W>) -> fmt::Result {
@@ -59,8 +59,7 @@ impl Spelled for u64 {
 // A count, which may be past its list's places.
 impl Spelled for usize {
     fn read(scanner: &mut Scanner<'_>) -> Result<Self, Unexpected> {
-        let count: u64 = Spelled::read(scanner)?;
-        Ok(count as usize)
+        scanner.number(0, usize::MAX, Expected::Number64)
     }
 
     fn print<W: fmt::Write>(&self, f: &mut fmt::Formatter<W>) -> fmt::Result {
@@ -71,7 +70,7 @@ impl Spelled for usize {
 // A flag.
 impl Spelled for bool {
     fn read(scanner: &mut Scanner<'_>) -> Result<Self, Unexpected> {
-        let flag = scanner.number(0, 1, Expected::Flag)?;
+        let flag: u8 = scanner.number(0, 1, Expected::Flag)?;
         Ok(flag == 1)
     }
 
@@ -251,9 +250,10 @@ pub fn read_items<T: Item, const N: usize>(
     for _ in 0..u64::MAX {
         let item = T::read(scanner)?;
         if listed.count < N {
-            listed.items[listed.count] = item;
+            listed.push(item);
+        } else {
+            listed.count = listed.count.saturating_add(1);
         }
-        listed.count = listed.count.saturating_add(1);
         if !scanner.takes_byte(b',') {
             break;
         }

@@ -14,9 +14,10 @@ use lib.Dec.{ltb}
 use lib.ListN.{get_or, length, length-append, length-drop, length-replicate, replicate, set, take}
 use lib.Seq.{length-take-le, take_all, take_at}
 use Rattle.block_records.proofs.arrays.LoopLaws.{set_padded, take_more}
-use Rattle.block_records.proofs.rules.Tests.{and_left, and_right, on}
-use Rattle.block_records.specs.arrays.Arrays.{Splices, flagged, spliced}
+use Rattle.block_records.proofs.rules.Tests.{on}
+use Rattle.block_records.specs.arrays.Arrays.{flagged, spliced}
 use Rattle.block_records.specs.rules.Lists.{padded, put}
+use Rattle.std.specs.Cmp.{first_so, second_so}
 
 -- a count, or the number of places where it is past them, is within the places
 pub within_few : (size n : ℕ) → cond (ltb n size) n size ≤ size
@@ -26,14 +27,8 @@ module _ {A : Type 0} where
   -- what holds of all holds at each place
   pub all_get_d : (p : A → Bool) (xs : List A) (i : ℕ) (d : A) → list_all p xs ≡ true → i < length xs → p (get_or xs i d) ≡ true
   all_get_d p [] i d e h = absurd (omega arith)
-  all_get_d p (x ∷ xs) zero d e h = and_left (p x) (list_all p xs) e
-  all_get_d p (x ∷ xs) (suc i) d e h = all_get_d p xs i d (and_right (p x) (list_all p xs) e) (omega arith)
-
-  -- within the list the default does not matter
-  pub get_d_any : (xs : List A) (i : ℕ) (d e : A) → i < length xs → get_or xs i d ≡ get_or xs i e
-  get_d_any [] i d e h = absurd (omega arith)
-  get_d_any (x ∷ xs) zero d e h = refl
-  get_d_any (x ∷ xs) (suc i) d e h = get_d_any xs i d e (omega arith)
+  all_get_d p (x ∷ xs) zero d e h = first_so (p x) (list_all p xs) e
+  all_get_d p (x ∷ xs) (suc i) d e h = all_get_d p xs i d (second_so (p x) (list_all p xs) e) (omega arith)
 
   -- ===== the first places =====
 
@@ -94,36 +89,12 @@ module _ {A : Type 0} where
   pub fill_end : (n : ℕ) (z : A) (t out : List A) (i : ℕ) → out ≡ padded n z (take i t) → length t ≤ i → out ≡ padded n z t
   fill_end n z t out i o h = o ∙ ap (padded n z) (take_all i t h)
 
--- ===== a loop that copies the first elements of an array of n, at place i =====
-
-module _ {A B : Type 0} where
-  -- what stands at a place of the images
-  pub getD_each : (f : A → B) (xs : List A) (i : ℕ) (d : A) → get_or (map f xs) i (f d) ≡ f (get_or xs i d)
-  getD_each f [] i d = refl
-  getD_each f (x ∷ xs) zero d = refl
-  getD_each f (x ∷ xs) (suc i) d = getD_each f xs i d
-
 -- ===== one element for those from place `at` up to `from` =====
 
 module _ {A : Type 0} (at from : ℕ) (a : A) (xs : List A) (p : at ≤ from) (q : from ≤ length xs) where
   -- how many they are then
   pub length_spliced : length (spliced at from a xs) ≡ at + 1 + (length xs - from)
   length_spliced = simp (length-append, length-drop, length-take-le at xs (omega arith)) (omega arith)
-
--- where a loop stands that fills an array with the first k of l so changed, n elements in all, at place j
-pub record Splicing {A : Type 0} (size : ℕ) (z : A) (at from : ℕ) (a : A) (l : List A) (k n j : ℕ) (out : List A) : Type 0 where
-  pub few : k ≤ size
-  pub split : Splices size at from k
-  pub whole : n ≡ at + 1 + (k - from)
-  pub bound : j ≤ n
-  pub places : out ≡ padded size z (take j (spliced at from a (take k l)))
-
-module _ {A : Type 0} (size : ℕ) (z : A) (at from : ℕ) (a : A) (l : List A) (k n j : ℕ) (out : List A) (s : Splicing size z at from a l k n j out) (long : length l ≡ size) where
-  listed : length (take k l) ≡ k
-  listed = length-take-le k l (omega (arith, s.few))
-
-  within : from ≤ length (take k l)
-  within = omega (arith, listed, s.split.within)
 
 -- ===== a loop that moves the flagged elements together: after the first i of xs, n are in `out` =====
 
@@ -173,17 +144,9 @@ module _ {A : Type 0} where
         let f = c.few in
         record { few = omega arith; count = rw q c.count; places = rw q c.places }
 
-    -- the loop ends
-    pub compact_end : length ks ≤ i → length xs ≤ i → (n ≡ length (flagged ks xs)) × (out ≡ padded size z (flagged ks xs))
-    compact_end h l = (rw (take_all i ks h, take_all i xs l) at c.count, rw (take_all i ks h, take_all i xs l) at c.places)
-
 -- ===== `each` of a list so changed =====
 
 module _ {A B : Type 0} (f : A → B) where
-  pub each_append : (xs ys : List A) → map f (xs ++ ys) ≡ map f xs ++ map f ys
-  each_append [] ys = refl
-  each_append (x ∷ xs) ys = ap (λ (r : List B). f x ∷ r) (each_append xs ys)
-
   -- an order of the images that says what an order of the elements says
   pub each_put : (lt : A → A → Bool) (lt' : B → B → Bool) → ((x y : A) → lt' (f x) (f y) ≡ lt x y) → (a : A) (xs : List A) →
       put lt' (f a) (map f xs) ≡ map f (put lt a xs)
@@ -200,8 +163,3 @@ module _ {A B : Type 0} (f : A → B) where
       on (p x)
       (λ t. rw (same x, t) (ap (λ (r : List B). f x ∷ r) (each_select p q same xs)))
       (λ t. rw (same x, t) (each_select p q same xs))
-
--- images of images
-pub each_each : {A B C : Type 0} (f : B → C) (g : A → B) (xs : List A) → map f (map g xs) ≡ map (λ (x : A). f (g x)) xs
-each_each f g [] = refl
-each_each {C = C} f g (x ∷ xs) = ap (λ (r : List C). f (g x) ∷ r) (each_each f g xs)

@@ -67,9 +67,6 @@ module _ {A : Type 0} (cmp : A → Ordering) (xs : List A) where
     split_here : drop i xs ≡ x ∷ drop (i + 1) xs
     split_here = drop-cons xs i x h ∙ rw add-one (ap (λ (y : A). y ∷ drop (suc i) xs) (sym here))
 
-    pub place_passed_by : Less ≡ cmp x → places_from i ≡ places_from (i + 1)
-    place_passed_by e = rw (split_here, ← e, add-one)
-
     pub place_is_here : Equal ≡ cmp x → places_from i ≡ Ok i
     place_is_here e = rw (split_here, ← e)
 

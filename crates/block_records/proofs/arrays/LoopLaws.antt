@@ -1,7 +1,5 @@
 -- One turn of a loop over lists: what is left at place i decides.
 -- Assumes nothing.
-use Rattle.std.specs.List.{list_all}
-use mathlib.Core.Bool.{Bool, false, true}
 use mathlib.Core.List.{List, [], ◌++◌, ◌∷◌, append_assoc, map}
 use mathlib.Core.Path.{◌∙◌, ◌≡◌, sym}
 use Prim.Native.Nat.{◌+◌, ◌-◌, ◌<◌, suc, ℕ}
@@ -18,18 +16,6 @@ drop_next l i d h = rw add-one (drop-cons l i d h)
 -- one element more
 pub take_more : {A : Type 0} (l : List A) (i : ℕ) (d : A) → i < length l → take (i + 1) l ≡ take i l ++ (get_or l i d ∷ [])
 take_more l i d h = rw add-one (take-suc l i d h)
-
--- ---- a test of every element from place i on
-module _ {A : Type 0} (p : A → Bool) (d : A) (l : List A) (i : ℕ) where
-  pub rest_next : i < length l → p (get_or l i d) ≡ true → list_all p (drop i l) ≡ list_all p (drop (i + 1) l)
-  rest_next h e = rw (drop_next l i d h, e)
-
-  pub rest_stop : i < length l → p (get_or l i d) ≡ false → list_all p (drop i l) ≡ false
-  rest_stop h e = rw (drop_next l i d h, e)
-
--- ---- a test of the first `count` elements, at place i
-abbrev pub left : {A : Type 0} → List A → ℕ → ℕ → List A
-left l count i = take (count - i) (drop i l)
 
 -- ---- an array that is filled from the front
 module _ {A : Type 0} (n : ℕ) (z : A) where

@@ -12,11 +12,13 @@ use borrow.Author.Tests.{le-leb, lt-leb}
 use lib.Dec.{leb}
 use lib.ListN.{get_or, length}
 use Rattle.block_records.proofs.arrays.ArrayLaws.{length_spliced}
+use Rattle.block_records.proofs.rules.Finds.{find_none}
 use Rattle.block_records.proofs.rules.ListLaws.{every_weaken}
-use Rattle.block_records.proofs.rules.Tests.{and_left, and_right, not_true, on}
-use Rattle.block_records.specs.arrays.Arrays.{Splices, spliced}
+use Rattle.block_records.proofs.rules.Tests.{on}
+use Rattle.block_records.specs.arrays.Arrays.{spliced}
 use Rattle.block_records.specs.arrays.Place.{IsWithin, place, place_from}
 use Rattle.block_records.specs.rules.Lists.{put, rising}
+use Rattle.std.specs.Cmp.{first_so, second_so}
 
 -- ===== the place by the list's first element =====
 
@@ -91,9 +93,6 @@ module _ {A : Type 0} (lt : A → A → Bool) (a : A) (same : A → Bool) (once 
 -- ===== and whether it has a place among `size` =====
 
 module _ {A : Type 0} (size : ℕ) (a : A) (xs : List A) (few : length xs ≤ size) (k : ℕ) where
-  pub inserts : k ≤ length xs → length xs < size → Splices size k k (length xs)
-  inserts h l = record { order = omega arith; within = h; room = omega arith }
-
   pub replaced_few : k < length xs → leb (length (spliced k (k + 1) a xs)) size ≡ true
   replaced_few h = le-leb (length (spliced k (k + 1) a xs)) size (omega (arith, length_spliced k (k + 1) a xs (omega arith) (omega arith)))
 
@@ -114,24 +113,17 @@ module _ {A : Type 0} (below same : A → Bool) where
   at_further d (Ok k) x xs = refl
   at_further d (Err k) x xs = refl
 
-  -- none further on, where none can be
-  none_after : (xs : List A) → list_all (λ (x : A). not (same x)) xs ≡ true → find same xs ≡ None
-  none_after [] h = refl
-  none_after (x ∷ xs) h =
-      rw (not_true (same x) (and_left (not (same x)) (list_all (λ (x : A). not (same x)) xs) h))
-      (none_after xs (and_right (not (same x)) (list_all (λ (x : A). not (same x)) xs) h))
-
   module _ (lt : A → A → Bool) (apart : (x : A) → below x ≡ true → same x ≡ false)
       (above : (x y : A) → below x ≡ false → same x ≡ false → lt x y ≡ true → not (same y) ≡ true) where
     finds_from : (d : A) (xs : List A) → rising lt xs ≡ true → find same xs ≡ element_at d (place_from below same 0 xs) xs
     finds_from d [] r = refl
     finds_from d (x ∷ xs) r =
-        let ih = finds_from d xs (and_right (list_all (lt x) xs) (rising lt xs) r) in
+        let ih = finds_from d xs (second_so (list_all (lt x) xs) (rising lt xs) r) in
         on (below x)
         (λ t. rw (t, apart x t, place_further below same 0 xs, at_further d (place_from below same 0 xs) x xs) ih)
         (λ t. rw t
         (on (same x) (λ u. rw u)
-        (λ u. rw u (none_after xs (every_weaken (lt x) (λ (y : A). not (same y)) xs (λ y l. above x y t u l) (and_left (list_all (lt x) xs) (rising lt xs) r))))))
+        (λ u. rw u (find_none same xs (every_weaken (lt x) (λ (y : A). not (same y)) xs (λ y l. above x y t u l) (first_so (list_all (lt x) xs) (rising lt xs) r))))))
 
     -- in a rising list the first that is the same stands there
     pub place_finds : (d : A) (xs : List A) → rising lt xs ≡ true → find same xs ≡ element_at d (place below same xs) xs

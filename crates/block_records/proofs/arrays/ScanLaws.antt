@@ -1,11 +1,12 @@
 -- Loops over the first places of an array, over any element type: a search, a test of neighbours, those that pass moved together, one put in where it stands.
 -- Assumes nothing.
+use Rattle.std.proofs.lemmas.List.{drop-replicate}
 use Rattle.std.specs.List.{list_all, find}
-use Rattle.std.specs.Prelude.{cond, is_some, filter}
+use Rattle.std.specs.Prelude.{is_some, filter}
 use mathlib.Core.Bool.{Bool, ◌&&◌, ◌||◌, false, true}
 use mathlib.Core.List.{List, [], ◌++◌, ◌∷◌, append_assoc, append-nil}
 use mathlib.Core.Path.{◌∙◌, ◌≡◌, ap, refl, sym}
-use Prim.Native.Nat.{◌+◌, ◌-◌, ◌<◌, ◌≤◌, suc, zero, ℕ}
+use Prim.Native.Nat.{◌+◌, ◌-◌, ◌<◌, ◌≤◌, ℕ}
 use native.Mathlib.Nat.{le_refl}
 use native.Mathlib.Numerals.{add-one}
 use native.Mathlib.Omega.{arith}
@@ -14,11 +15,15 @@ use lib.Dec.{ltb}
 use lib.ListN.{drop, get_or, length, length-append, replicate, set, take, take-append-drop}
 use lib.Seq.{drop-append-add, drop-append-le, length-take-le, set_split, take-take}
 use Rattle.block_records.proofs.arrays.ArrayLaws.{length_spliced, length_within}
-use Rattle.block_records.proofs.arrays.LoopLaws.{padded_nil, set_padded}
-use Rattle.block_records.proofs.rules.ListLaws.{Order, every_weaken}
-use Rattle.block_records.proofs.rules.Tests.{and_intro, and_left, and_right, iff_same, on}
+use Rattle.block_records.proofs.arrays.LoopLaws.{set_padded}
+use Rattle.block_records.proofs.rules.ListLaws.{Order, every_weaken, length_select}
+use Rattle.block_records.proofs.rules.Tests.{and_intro, iff_same, on}
 use Rattle.block_records.specs.arrays.Arrays.{overwritten, spliced}
 use Rattle.block_records.specs.rules.Lists.{padded, put, rising}
+use Rattle.block_records.specs.layout.Listed.{packed, pushed}
+use Rattle.block_records.specs.declared.listed.Listed.{Listed}
+use Rattle.std.proofs.lemmas.List.Elements.{filter_more}
+use Rattle.std.specs.Cmp.{first_so, second_so}
 
 -- ===== the first places =====
 
@@ -53,63 +58,30 @@ module _ {A : Type 0} (lt : A → A → Bool) where
       yes : lt x y ≡ true → rising lt (x ∷ y ∷ ys) ≡ lt x y && rising lt (y ∷ ys)
       yes t =
           rw t
-          (iff_same (list_all (lt x) ys && rising lt (y ∷ ys)) (rising lt (y ∷ ys)) (and_right (list_all (lt x) ys) (rising lt (y ∷ ys)))
-          (λ h. and_intro (every_weaken (lt y) (lt x) ys (λ z l. o.trans x y z t l) (and_left (list_all (lt y) ys) (rising lt ys) h)) h))
+          (iff_same (list_all (lt x) ys && rising lt (y ∷ ys)) (rising lt (y ∷ ys)) (second_so (list_all (lt x) ys) (rising lt (y ∷ ys)))
+          (λ h. and_intro (every_weaken (lt y) (lt x) ys (λ z l. o.trans x y z t l) (first_so (list_all (lt y) ys) (rising lt ys) h)) h))
 
--- ===== a loop that moves the elements that pass together: after the first i of l, n are in `out` =====
+-- ===== a loop that lists the elements that pass, at place i of l =====
+
+-- one more item in the first free place
+pub pushed_packed : {A : Type 0} (n : ℕ) (z : A) (xs : List A) (a : A) → length xs < n → pushed a (packed n z xs) ≡ packed n z (xs ++ (a ∷ []))
+pushed_packed n z xs a h =
+    let c : length xs + 1 ≡ length (xs ++ (a ∷ [])) = omega (arith, length-append xs (a ∷ [])) in
+    let e = set_padded n z xs (length xs) a refl h in
+    λ i. record { count = c i; items = e i }
 
 module _ {A : Type 0} (p : A → Bool) where
-  select_suc : (l : List A) (i : ℕ) (d : A) → i < length l → filter p (take (suc i) l) ≡ filter p (take i l) ++ cond (p (get_or l i d)) (get_or l i d ∷ []) []
-  select_suc [] i d h = absurd (omega arith)
-  select_suc (x ∷ xs) zero d h = refl
-  select_suc (x ∷ xs) (suc i) d h = let ih = select_suc xs i d (omega arith) in on (p x) (λ t. rw (t, ih)) (λ t. rw (t, ih))
+  -- this one passes
+  pub retain_yes : (size : ℕ) (z : A) (l : List A) (i : ℕ) (d : A) (kept : Listed A size) → kept ≡ packed size z (filter p (take i l)) → p (get_or l i d) ≡ true → i < length l → length l ≤ size →
+      pushed (get_or l i d) kept ≡ packed size z (filter p (take (i + 1) l))
+  retain_yes size z l i d kept c e h b =
+      let q : filter p (take (i + 1) l) ≡ filter p (take i l) ++ (get_or l i d ∷ []) = rw e at (filter_more p l i d h) in
+      rw (c, q) (pushed_packed size z (filter p (take i l)) (get_or l i d) (omega (arith, length_select p (take i l), length-take-le i l (omega arith))))
 
-  select_yes : (l : List A) (i : ℕ) (d : A) → i < length l → p (get_or l i d) ≡ true → filter p (take (i + 1) l) ≡ filter p (take i l) ++ (get_or l i d ∷ [])
-  select_yes l i d h e = rw add-one (rw e at (select_suc l i d h))
-
-  select_no : (l : List A) (i : ℕ) (d : A) → i < length l → p (get_or l i d) ≡ false → filter p (take (i + 1) l) ≡ filter p (take i l)
-  select_no l i d h e = rw add-one (select_suc l i d h ∙ rw (e, append-nil))
-
-  -- where the loop stands
-  pub record RetainedSoFar (size : ℕ) (z : A) (l : List A) (i n : ℕ) (out : List A) : Type 0 where
-    pub few : n ≤ i
-    pub count : n ≡ length (filter p (take i l))
-    pub places : out ≡ padded size z (filter p (take i l))
-
-  -- before the first turn
-  pub retain_start : (size : ℕ) (z : A) (l : List A) → RetainedSoFar size z l 0 0 (replicate size z)
-  retain_start size z l = record { few = le_refl 0; count = refl; places = sym (padded_nil size z) }
-
-  module _ (size : ℕ) (z : A) (l : List A) (i n : ℕ) (out : List A) (c : RetainedSoFar size z l i n out) where
-    -- this one passes
-    pub retain_yes : (d : A) → p (get_or l i d) ≡ true → i < length l → i < size → RetainedSoFar size z l (i + 1) (n + 1) (set out n (get_or l i d))
-    retain_yes d e h b =
-        let q = select_yes l i d h e in
-        let f = c.few in
-        record {
-          few = omega arith;
-          count = rw (q, length-append, ← c.count);
-          places = rw (c.places, q) (set_padded size z (filter p (take i l)) n (get_or l i d) (sym c.count) (omega arith));
-        }
-
-    -- this one does not
-    pub retain_no : (d : A) → p (get_or l i d) ≡ false → i < length l → RetainedSoFar size z l (i + 1) n out
-    retain_no d e h =
-        let q = select_no l i d h e in
-        let f = c.few in
-        record { few = omega arith; count = rw q c.count; places = rw q c.places }
-
-    -- after k turns
-    pub retain_end : (k : ℕ) → i ≡ k → (n ≡ length (filter p (take k l))) × (out ≡ padded size z (filter p (take k l)))
-    retain_end k e = (rw e at c.count, rw e at c.places)
-
--- ===== a loop that moves those from place `at` on one place further, from the last on down; it has come to place j =====
-
-module _ {A : Type 0} (a : A) (xs : List A) (count : ℕ) where
-  -- where the loop stands
-  pub record Opened (j : ℕ) (out : List A) : Type 0 where
-    pub long : length out ≡ length xs
-    pub below : take j out ≡ take j xs
+  -- this one does not
+  pub retain_no : (size : ℕ) (z : A) (l : List A) (i : ℕ) (d : A) (kept : Listed A size) → kept ≡ packed size z (filter p (take i l)) → p (get_or l i d) ≡ false → i < length l →
+      kept ≡ packed size z (filter p (take (i + 1) l))
+  retain_no size z l i d kept c e h = c ∙ ap (packed size z) (sym (filter_more p l i d h ∙ rw (e, append-nil)))
 
 -- one that is replaced where it stands
 module _ {A : Type 0} (a : A) (xs : List A) (count : ℕ) (few : count ≤ length xs) (k : ℕ) (h : k < count) where
@@ -131,11 +103,6 @@ module _ {A : Type 0} (a : A) (xs : List A) (count : ℕ) (few : count ≤ lengt
 -- ===== over an array with zeros after its list =====
 
 module _ {A : Type 0} where
-  drop_replicate : (k m : ℕ) (z : A) → drop k (replicate m z) ≡ replicate (m - k) z
-  drop_replicate zero m z = let e : m - 0 ≡ m = omega arith in rw e
-  drop_replicate (suc k) zero z = let e : 0 - suc k ≡ 0 = omega arith in rw e
-  drop_replicate (suc k) (suc m) z = let e : suc m - suc k ≡ m - k = omega arith in rw e (drop_replicate k m z)
-
   -- a list that is no shorter: zeros stand after it
   pub overwritten_padded : (n : ℕ) (z : A) (xs ys : List A) → length ys ≤ length xs → overwritten xs (padded n z ys) ≡ padded n z xs
   unfolding padded
@@ -144,7 +111,7 @@ module _ {A : Type 0} where
       let m : n - length ys - (length xs - length ys) ≡ n - length xs = omega arith in
       let e : drop (length xs) (ys ++ replicate (n - length ys) z) ≡ replicate (n - length xs) z =
       ap (λ (i : ℕ). drop i (ys ++ replicate (n - length ys) z)) k ∙ drop-append-add ys (replicate (n - length ys) z) (length xs - length ys)
-      ∙ drop_replicate (length xs - length ys) (n - length ys) z ∙ ap (λ (i : ℕ). replicate i z) m in
+      ∙ drop-replicate (length xs - length ys) (n - length ys) z ∙ ap (λ (i : ℕ). replicate i z) m in
       ap (λ (l : List A). xs ++ l) e
 
   -- put makes no list shorter

@@ -5,14 +5,14 @@ use Rattle.std.specs.Prelude.{None, Option, Some}
 use lib.Pointwise.{pointwise}
 use mathlib.Core.Bool.{Bool, beq, ◌&&◌, false, true}
 use mathlib.Core.List.{List, [], ◌∷◌}
-use mathlib.Core.Logic.{◌↔◌}
 use mathlib.Core.Path.{◌∙◌, ◌≡◌, ap, ap₂, refl, sym}
 use Prim.Native.Nat.{suc, zero, ℕ}
 use borrow.Author.Tests.{eq-eqb, eqb-true}
 use lib.Dec.{eqb}
-use Rattle.block_records.specs.declared.block_id.BlockId.{BlockId}
+use Rattle.block_records.specs.contracts.entry.BlockCacheEntryDataPartialEq.TheImpl.{eq-value as kind_eq-value}
+use Rattle.block_records.specs.contracts.entry.BlockCacheEntryPartialEq.TheImpl.{eq-value as entry_eq-value}
+use Rattle.block_records.specs.contracts.entry.CandidateStatusPartialEq.TheImpl.{eq-value as status_eq-value}
 use Rattle.block_records.specs.declared.block_id.BlockIdShort.{BlockIdShort}
-use Rattle.block_records.specs.declared.block_id.ShardIdent.{ShardIdent}
 use Rattle.block_records.specs.declared.entry.BlockCacheEntry.{BlockCacheEntry}
 use Rattle.block_records.specs.declared.entry.BlockCacheEntryData.{BlockCacheEntryData}
 use Rattle.block_records.specs.declared.entry.BlockCacheEntryData.TheVariants.{Collated as collated, Received as received}
@@ -21,11 +21,12 @@ use Rattle.block_records.specs.declared.entry.CandidateStatus.TheVariants.{Colla
 use Rattle.block_records.specs.declared.top_block.TopBlock.{TopBlock}
 use Rattle.block_records.specs.layout.Listed.{PrevIds, TopBlocks}
 use Rattle.block_records.proofs.rules.BlockIdLaws.{id_order, key_path, shard_order}
-use Rattle.block_records.proofs.rules.Tests.{absurd_eq, and_left, and_right}
+use Rattle.block_records.proofs.rules.Tests.{absurd_eq}
 use Rattle.block_records.specs.layout.Equality.{same_anchor, same_entry, same_kind, same_prev_ids, same_top, same_tops}
 use Rattle.block_records.specs.rules.BlockId.{key_shard, same_id, same_key, same_shard}
 use Rattle.block_records.specs.rules.Entry.{same_status, status_number}
 use Rattle.block_records.specs.rules.Order.{IsSame}
+use Rattle.std.specs.Cmp.{first_so, second_so}
 
 -- ===== from the parts to the whole =====
 
@@ -33,7 +34,7 @@ module _ {A K L : Type 0} {s₁ : K → K → Bool} {s₂ : L → L → Bool} (f
     (whole : (a b : A) → f a ≡ f b → g a ≡ g b → a ≡ b) (d₁ : IsSame s₁) (d₂ : IsSame s₂) where
   pub both_same : IsSame (λ (a b : A). s₁ (f a) (f b) && s₂ (g a) (g b))
   both_same = record {
-    same_eq = λ a b e. whole a b (d₁.same_eq (f a) (f b) (and_left _ _ e)) (d₂.same_eq (g a) (g b) (and_right (s₁ (f a) (f b)) _ e));
+    same_eq = λ a b e. whole a b (d₁.same_eq (f a) (f b) (first_so _ _ e)) (d₂.same_eq (g a) (g b) (second_so (s₁ (f a) (f b)) _ e));
     same_refl = λ a. rw (d₁.same_refl (f a), d₂.same_refl (g a));
   }
 
@@ -47,7 +48,7 @@ module _ {A : Type 0} (same : A → A → Bool) where
   list_eq h [] (y ∷ ys) e = absurd_eq e
   list_eq h (x ∷ xs) [] e = absurd_eq e
   list_eq h (x ∷ xs) (y ∷ ys) e =
-      ap₂ ◌∷◌ (h x y (and_left (same x y) (pointwise same xs ys) e)) (list_eq h xs ys (and_right (same x y) (pointwise same xs ys) e))
+      ap₂ ◌∷◌ (h x y (first_so (same x y) (pointwise same xs ys) e)) (list_eq h xs ys (second_so (same x y) (pointwise same xs ys) e))
 
   list_refl : ((a : A) → same a a ≡ true) → (a : List A) → pointwise same a a ≡ true
   list_refl h [] = refl
@@ -145,7 +146,7 @@ kind_eq (collated s r g w p) (collated s' r' g' w' p') e =
 kind_eq (collated s r g w p) (received c d) e = absurd_eq e
 kind_eq (received c d) (collated s r g w p) e = absurd_eq e
 kind_eq (received c d) (received c' d') e =
-    ap₂ received (bool_eq c c' (and_left (beq c c') (same_anchor d d') e)) (anchor_same.same_eq d d' (and_right (beq c c') (same_anchor d d') e))
+    ap₂ received (bool_eq c c' (first_so (beq c c') (same_anchor d d') e)) (anchor_same.same_eq d d' (second_so (beq c c') (same_anchor d d') e))
 
 kind_refl : (a : BlockCacheEntryData) → same_kind a a ≡ true
 kind_refl (collated s r g w p) = parts_same.same_refl (s, (r, (g, (w, p))))
@@ -176,25 +177,35 @@ entry_same =
     both_same (λ (e : BlockCacheEntry). e.block_id) entry_rest entry_whole id_same
     (pair_same prev_ids_same (pair_same anchor_same (pair_same nat_same (pair_same nat_same kind_same))))
 
--- ===== a test is true exactly of two that are one =====
+-- ===== the derives compute the tests =====
 
-pub decides : {A : Type 0} {same : A → A → Bool} → IsSame same → (a b : A) → same a b ≡ true ↔ a ≡ b
-decides d a b = (d.same_eq a b, λ e. rw (← e) (d.same_refl a))
+pub status_derived : (a b : CandidateStatus) → status_eq-value.it a b ≡ same_status a b
+status_derived Collated Collated = refl
+status_derived Collated Validated = refl
+status_derived Collated ValidationSkipped = refl
+status_derived Collated Synced = refl
+status_derived Validated Collated = refl
+status_derived Validated Validated = refl
+status_derived Validated ValidationSkipped = refl
+status_derived Validated Synced = refl
+status_derived ValidationSkipped Collated = refl
+status_derived ValidationSkipped Validated = refl
+status_derived ValidationSkipped ValidationSkipped = refl
+status_derived ValidationSkipped Synced = refl
+status_derived Synced Collated = refl
+status_derived Synced Validated = refl
+status_derived Synced ValidationSkipped = refl
+status_derived Synced Synced = refl
 
-pub same_shard_iff : (a b : ShardIdent) → same_shard a b ≡ true ↔ a ≡ b
-same_shard_iff = decides shard_same
+kind_derived : (a b : BlockCacheEntryData) → kind_eq-value.it a b ≡ same_kind a b
+kind_derived (collated s r g w p) (collated s' r' g' w' p') =
+    ap (λ (t : Bool). t && (beq r r' && (eqb g g' && (eqb w w' && eqb p p')))) (status_derived s s')
+kind_derived (collated s r g w p) (received c d) = refl
+kind_derived (received c d) (collated s r g w p) = refl
+kind_derived (received c d) (received c' d') = refl
 
-pub same_key_iff : (a b : BlockIdShort) → same_key a b ≡ true ↔ a ≡ b
-same_key_iff = decides key_same
-
-pub same_id_iff : (a b : BlockId) → same_id a b ≡ true ↔ a ≡ b
-same_id_iff = decides id_same
-
-pub same_top_iff : (a b : TopBlock) → same_top a b ≡ true ↔ a ≡ b
-same_top_iff = decides top_same
-
-pub same_tops_iff : (a b : TopBlocks) → same_tops a b ≡ true ↔ a ≡ b
-same_tops_iff = decides tops_same
-
-pub same_entry_iff : (a b : BlockCacheEntry) → same_entry a b ≡ true ↔ a ≡ b
-same_entry_iff = decides entry_same
+pub entry_derived : (a b : BlockCacheEntry) → entry_eq-value.it a b ≡ same_entry a b
+unfolding same_entry
+entry_derived a b =
+    ap (λ (k : Bool). same_id a.block_id b.block_id && (same_prev_ids a.prev_ids b.prev_ids && (same_anchor a.top_anchor b.top_anchor
+    && (eqb a.ref_by_mc_seqno b.ref_by_mc_seqno && (eqb a.payload b.payload && k))))) (kind_derived a.«data» b.«data»)

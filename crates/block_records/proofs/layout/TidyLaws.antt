@@ -1,9 +1,11 @@
 -- A record is tidy exactly if its count is within its places and zeros stand in unused ones.
 -- Assumes nothing.
 use lib.Pointwise.{pointwise}
+use Rattle.std.proofs.Math.Bool.{and-true, and_assoc}
+use Rattle.std.proofs.lemmas.List.{map-id}
 use Rattle.std.specs.List.{list_all}
 use Rattle.std.specs.Prelude.{map}
-use mathlib.Core.Bool.{Bool, ◌&&◌, false, true}
+use mathlib.Core.Bool.{Bool, ◌&&◌, true}
 use mathlib.Core.List.{List, Memᴰ, [], ◌++◌, ◌∷◌}
 use mathlib.Core.Path.{◌∙◌, ◌≡◌, ap, ap₂, refl, sym}
 use Prim.Native.Nat.{◌-◌, ◌≤◌, suc, zero, ℕ}
@@ -11,26 +13,17 @@ use native.Mathlib.Omega.{arith}
 use borrow.Author.Tests.{eq-eqb, eqb-true, le-leb, leb-true}
 use lib.Dec.{eqb, leb}
 use lib.ListN.{drop, length, replicate, take}
-use Rattle.block_records.specs.declared.block_id.BlockId.{BlockId}
 use Rattle.block_records.specs.declared.entry.BlockCacheEntry.{BlockCacheEntry}
-use Rattle.block_records.specs.declared.top_block.TopBlock.{TopBlock}
-use Rattle.block_records.specs.layout.Listed.{PrevIds, TopBlocks}
-use Rattle.block_records.proofs.layout.EqualityLaws.{anchor_same, entry_same, id_same, kind_same, nat_same, prev_ids_same, top_same, tops_same}
+use Rattle.block_records.specs.declared.listed.Listed.{Listed}
+use Rattle.block_records.specs.layout.Listed.{PrevIds, TopBlocks, listed, tidy_listed}
+use Rattle.block_records.proofs.layout.EqualityLaws.{anchor_same, id_same, kind_same, nat_same, top_same}
 use Rattle.block_records.proofs.rules.Tests.{and_intro, iff_same}
-use Rattle.block_records.specs.layout.Entry.{entry_tidy, pack_entry, pack_prev_ids, pack_tops, prev_ids_tidy, tops_tidy, view_entry, view_shard_entry}
+use Rattle.block_records.specs.layout.Entry.{entry_tidy, prev_ids_tidy, tops_tidy}
 use Rattle.block_records.specs.layout.Equality.{same_entry, same_top}
-use Rattle.block_records.specs.layout.Zeros.{zero_id, zero_top}
-use Rattle.block_records.specs.rules.BlockId.{listed_prev_ids, listed_tops, same_id}
+use Rattle.block_records.specs.layout.Zeros.{is_zero_id, is_zero_top, zero_id, zero_top}
+use Rattle.block_records.specs.rules.BlockId.{same_id}
 use Rattle.block_records.specs.rules.Lists.{padded}
 use Rattle.block_records.specs.rules.Order.{IsSame}
-
-and_assoc : (a b c : Bool) → a && (b && c) ≡ (a && b) && c
-and_assoc true b c = refl
-and_assoc false b c = refl
-
-and_true : (a : Bool) → a && true ≡ a
-and_true true = refl
-and_true false = refl
 
 module _ {A : Type 0} where
   pub every_true : (p : A → Bool) (xs : List A) → ((x : A) → p x ≡ true) → list_all p xs ≡ true
@@ -40,10 +33,6 @@ module _ {A : Type 0} where
   pub every_same : (p q : A → Bool) (xs : List A) → ((x : A) → Memᴰ x xs → p x ≡ q x) → list_all p xs ≡ list_all q xs
   every_same p q [] h = refl
   every_same p q (x ∷ xs) h = ap₂ ◌&&◌ (h x (Memᴰ.head refl)) (every_same p q xs (λ y u. h y (Memᴰ.tail u)))
-
-  each_same : (xs : List A) → map (λ (x : A). x) xs ≡ xs
-  each_same [] = refl
-  each_same (x ∷ xs) = ap (λ (r : List A). x ∷ r) (each_same xs)
 
   -- a count within its places
   pub count_take : (k : ℕ) (xs : List A) → eqb k (length (take k xs)) ≡ leb k (length xs)
@@ -81,7 +70,7 @@ module _ {A : Type 0} where
     appended (suc k) [] = refl
     appended (suc k) (x ∷ xs) =
         let e : suc (length xs) - suc (length (map h (take k xs))) ≡ length xs - length (map h (take k xs)) = omega arith in
-        rw (e, appended k xs) (and_assoc (s x (h x)) (list_all (λ (x : A). s x (h x)) (take k xs)) (list_all (λ (x : A). s x z) (drop k xs)))
+        rw (e, appended k xs) (sym (and_assoc (s x (h x)) (list_all (λ (x : A). s x (h x)) (take k xs)) (list_all (λ (x : A). s x z) (drop k xs))))
 
     -- an array of n places is the packing of its first k, each made anew by h
     pub same_padded : (n k : ℕ) (xs : List A) → length xs ≡ n →
@@ -92,30 +81,25 @@ module _ {A : Type 0} where
   pub same_padded_plain : (s : A → A → Bool) → IsSame s → (z : A) (n k : ℕ) (xs : List A) → length xs ≡ n →
       pointwise s xs (padded n z (take k xs)) ≡ list_all (λ (x : A). s x z) (drop k xs)
   same_padded_plain s d z n k xs e =
-      ap (λ (l : List A). pointwise s xs (padded n z l)) (sym (each_same (take k xs))) ∙ same_padded s (λ (x : A). x) z n k xs e
+      ap (λ (l : List A). pointwise s xs (padded n z l)) (sym (map-id (take k xs))) ∙ same_padded s (λ (x : A). x) z n k xs e
       ∙ ap (λ (b : Bool). b && list_all (λ (x : A). s x z) (drop k xs)) (every_true (λ (x : A). s x x) (take k xs) d.same_refl)
+
+  -- a list is held tidily exactly if it is the packing of what it lists
+  pub tidy_listed_is : (s : A → A → Bool) → IsSame s → (z : A) (n : ℕ) (l : Listed A n) → length l.items ≡ n →
+      tidy_listed n (λ (x : A). s x z) l ≡ eqb l.count (length (listed l)) && pointwise s l.items (padded n z (listed l))
+  tidy_listed_is s d z n l e =
+      sym (ap₂ ◌&&◌ (count_take l.count l.items ∙ ap (leb l.count) e) (same_padded_plain s d z n l.count l.items e))
 
 -- ===== each by the length of its own array =====
 
-pub prev_ids_tidy_is : (p : PrevIds) → length p.items ≡ 2 → prev_ids_tidy p ≡ leb p.count 2 && list_all (λ (i : BlockId). same_id i zero_id) (drop p.count p.items)
-prev_ids_tidy_is p l = ap₂ ◌&&◌ (count_take p.count p.items ∙ ap (leb p.count) l) (same_padded_plain same_id id_same zero_id 2 p.count p.items l)
+pub prev_ids_tidy_is : (p : PrevIds) → length p.items ≡ 2 → tidy_listed 2 is_zero_id p ≡ prev_ids_tidy p
+prev_ids_tidy_is p l = tidy_listed_is same_id id_same zero_id 2 p l
 
-pub tops_tidy_is : (t : TopBlocks) → length t.items ≡ 8 → tops_tidy t ≡ leb t.count 8 && list_all (λ (x : TopBlock). same_top x zero_top) (drop t.count t.items)
-tops_tidy_is t l = ap₂ ◌&&◌ (count_take t.count t.items ∙ ap (leb t.count) l) (same_padded_plain same_top top_same zero_top 8 t.count t.items l)
+pub tops_tidy_is : (t : TopBlocks) → length t.items ≡ 8 → tidy_listed 8 is_zero_top t ≡ tops_tidy t
+tops_tidy_is t l = tidy_listed_is same_top top_same zero_top 8 t l
 
 pub entry_tidy_is : (b : BlockCacheEntry) → entry_tidy b ≡ prev_ids_tidy b.prev_ids
 unfolding same_entry
 entry_tidy_is b =
     rw (id_same.same_refl b.block_id, anchor_same.same_refl b.top_anchor, nat_same.same_refl b.ref_by_mc_seqno, nat_same.same_refl b.payload, kind_same.same_refl b.«data»)
-    (and_true (prev_ids_tidy b.prev_ids))
-
--- ===== a tidy record is the packing of what it stands for =====
-
-pub tidy_prev_ids : (p : PrevIds) → prev_ids_tidy p ≡ true → p ≡ pack_prev_ids (listed_prev_ids p)
-tidy_prev_ids p h = prev_ids_same.same_eq p (pack_prev_ids (listed_prev_ids p)) h
-
-pub tidy_tops : (t : TopBlocks) → tops_tidy t ≡ true → t ≡ pack_tops (listed_tops t)
-tidy_tops t h = tops_same.same_eq t (pack_tops (listed_tops t)) h
-
-pub tidy_entry : (b : BlockCacheEntry) (ts : List TopBlock) → entry_tidy b ≡ true → b ≡ pack_entry (view_entry b ts)
-tidy_entry b ts h = entry_same.same_eq b (pack_entry (view_shard_entry b)) h
+    (and-true (prev_ids_tidy b.prev_ids))

@@ -1,13 +1,15 @@
 -- What `find`, `select` and `every` give.
 -- Assumes nothing.
-use Rattle.std.specs.List.{find}
+use Rattle.std.specs.List.{find, list_all}
 use Rattle.std.specs.Prelude.{None, Some, map, filter}
-use mathlib.Core.Bool.{Bool, false, true}
+use mathlib.Core.Bool.{Bool, false, not, true}
 use mathlib.Core.List.Memᴰ
 use mathlib.Core.List.{List, Memᴰ, [], ◌∷◌}
 use mathlib.Core.Logic.{◌⊎◌, inl, inr}
 use mathlib.Core.Path.{◌≡◌, ap, refl}
 use Rattle.block_records.proofs.rules.Tests.{clash, on, some_not_none}
+use Rattle.std.proofs.lemmas.Bool.{not-true}
+use Rattle.std.specs.Cmp.{first_so, second_so}
 
 module _ {A : Type 0} where
   pub find_passes : (p : A → Bool) (xs : List A) {a : A} → find p xs ≡ Some a → p a ≡ true
@@ -23,6 +25,12 @@ module _ {A : Type 0} where
       on (p x)
       (λ e. let q : Some x ≡ Some a = rw e at h in Memᴰ.head (cc))
       (λ e. Memᴰ.tail (find_member p xs (rw e at h)))
+
+  -- none is found in a list of which all fail
+  pub find_none : (p : A → Bool) (xs : List A) → list_all (λ (x : A). not (p x)) xs ≡ true → find p xs ≡ None
+  find_none p [] h = refl
+  find_none p (x ∷ xs) h =
+      rw (not-true (p x) (first_so (not (p x)) (list_all (λ (x : A). not (p x)) xs) h)) (find_none p xs (second_so (not (p x)) (list_all (λ (x : A). not (p x)) xs) h))
 
   -- what does not stay is not found
   pub find_select_none : (q p : A → Bool) (xs : List A) → ((x : A) → q x ≡ true → p x ≡ false) → find q (filter p xs) ≡ None

@@ -11,9 +11,11 @@ use lib.IntN.{negsuc, pos, ℤ}
 use lib.Signed.{lt_z}
 use Rattle.std.proofs.lemmas.Bool.Decides.{Decides-int_eq}
 use Rattle.std.specs.Ordering.{int_eq}
-use Rattle.block_records.proofs.rules.Tests.{and_left, and_right, clash, not_true_false}
+use Rattle.block_records.proofs.rules.Tests.{clash}
 use Rattle.block_records.specs.rules.BlockId.{less_hash, same_hash}
 use Rattle.block_records.specs.rules.Order.{IsOrder, then_by}
+use Rattle.std.proofs.lemmas.Bool.{false_from_ne_true}
+use Rattle.std.specs.Cmp.{first_so, second_so}
 
 -- ---- numbers
 nat_total : (a b : ℕ) → eqb a b ≡ false → ltb a b ≡ false → ltb b a ≡ true
@@ -86,17 +88,17 @@ module _ {K : Type 0} (same₁ less₁ : K → K → Bool) (o : IsOrder same₁ 
       go : (t u : Bool) → less₁ a b ≡ t → less₁ b c ≡ u → then_by (less₁ a c) (same₁ a c) z ≡ true
       go true true e e' = rw (o.trans a b c e e')
       go true false e e' =
-          let s : same₁ b c ≡ true = and_left (same₁ b c) y (rw e' at q) in
+          let s : same₁ b c ≡ true = first_so (same₁ b c) y (rw e' at q) in
           rw (← o.same_eq b c s, e)
       go false true e e' =
-          let s : same₁ a b ≡ true = and_left (same₁ a b) x (rw e at p) in
+          let s : same₁ a b ≡ true = first_so (same₁ a b) x (rw e at p) in
           rw (o.same_eq a b s, e')
       go false false e e' =
           let s : (same₁ a b && x) ≡ true = rw e at p in
           let s' : (same₁ b c && y) ≡ true = rw e' at q in
-          let ab : a ≡ b = o.same_eq a b (and_left (same₁ a b) x s) in
-          let bc : b ≡ c = o.same_eq b c (and_left (same₁ b c) y s') in
-          rw (ab, bc, o.irrefl c, o.same_refl c, h (and_right (same₁ a b) x s) (and_right (same₁ b c) y s'))
+          let ab : a ≡ b = o.same_eq a b (first_so (same₁ a b) x s) in
+          let bc : b ≡ c = o.same_eq b c (first_so (same₁ b c) y s') in
+          rw (ab, bc, o.irrefl c, o.same_refl c, h (second_so (same₁ a b) x s) (second_so (same₁ b c) y s'))
 
   lex_total : (a b : K) (s x y : Bool) → (s ≡ false → x ≡ false → y ≡ true)
       → (same₁ a b && s) ≡ false
@@ -117,7 +119,7 @@ module _ {A K L : Type 0} {same₁ less₁ : K → K → Bool} {same₂ less₂ 
   pub then_order :
       IsOrder (λ (a b : A). same₁ (f a) (f b) && same₂ (g a) (g b)) (λ (a b : A). then_by (less₁ (f a) (f b)) (same₁ (f a) (f b)) (less₂ (g a) (g b)))
   then_order = record {
-    same_eq = λ a b e. whole a b (o₁.same_eq (f a) (f b) (and_left _ _ e)) (o₂.same_eq (g a) (g b) (and_right (same₁ (f a) (f b)) _ e));
+    same_eq = λ a b e. whole a b (o₁.same_eq (f a) (f b) (first_so _ _ e)) (o₂.same_eq (g a) (g b) (second_so (same₁ (f a) (f b)) _ e));
     same_refl = λ a. rw (o₁.same_refl (f a), o₂.same_refl (g a));
     irrefl = λ a. rw (o₁.irrefl (f a), o₁.same_refl (f a), o₂.irrefl (g a));
     trans = λ a b c p q. lex_trans same₁ less₁ o₁ (f a) (f b) (f c) _ _ _ (o₂.trans (g a) (g b) (g c)) p q;
@@ -129,7 +131,7 @@ bytes_eq : (a b : List ℕ) → same_hash a b ≡ true → a ≡ b
 bytes_eq [] [] e = refl
 bytes_eq [] (y ∷ ys) e = cc
 bytes_eq (x ∷ xs) [] e = cc
-bytes_eq (x ∷ xs) (y ∷ ys) e = ap₂ ◌∷◌ (eqb-true x y (and_left (eqb x y) (same_hash xs ys) e)) (bytes_eq xs ys (and_right (eqb x y) (same_hash xs ys) e))
+bytes_eq (x ∷ xs) (y ∷ ys) e = ap₂ ◌∷◌ (eqb-true x y (first_so (eqb x y) (same_hash xs ys) e)) (bytes_eq xs ys (second_so (eqb x y) (same_hash xs ys) e))
 
 bytes_refl : (a : List ℕ) → same_hash a a ≡ true
 bytes_refl [] = refl
@@ -159,10 +161,10 @@ bytes_order = record { same_eq = bytes_eq; same_refl = bytes_refl; irrefl = byte
 -- ---- what follows for any order: the laws to cite above
 module _ {A : Type 0} {same less : A → A → Bool} (o : IsOrder same less) (a b : A) where
   pub less_not_same : less a b ≡ true → same a b ≡ false
-  less_not_same l = not_true_false (same a b) (λ e. clash l (rw (o.same_eq a b e) (o.irrefl b)))
+  less_not_same l = false_from_ne_true (same a b) (λ e. clash l (rw (o.same_eq a b e) (o.irrefl b)))
 
   pub asym : less a b ≡ true → less b a ≡ false
-  asym l = not_true_false (less b a) (λ m. clash (o.trans a b a l m) (o.irrefl a))
+  asym l = false_from_ne_true (less b a) (λ m. clash (o.trans a b a l m) (o.irrefl a))
 
   pub differs : (a ≡ b → ⊥) → same a b ≡ false
-  differs n = not_true_false (same a b) (λ e. n (o.same_eq a b e))
+  differs n = false_from_ne_true (same a b) (λ e. n (o.same_eq a b e))

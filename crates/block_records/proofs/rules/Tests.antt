@@ -1,7 +1,7 @@
 -- Cases on a test, and what tests that hold say.
 -- Assumes nothing.
 use Rattle.std.specs.Prelude.{Option, None, Some}
-use mathlib.Core.Bool.{Bool, ◌&&◌, ◌||◌, false, not, true, true≢false}
+use mathlib.Core.Bool.{Bool, ◌&&◌, ◌||◌, false, true, true≢false}
 use mathlib.Core.Path.{◌≡◌, refl, sym}
 use Prim.Native.Nat.{ℕ}
 use native.Mathlib.Omega.{arith}
@@ -22,18 +22,6 @@ iff_same true u f g = sym (f refl)
 iff_same false true f g = g refl
 iff_same false false f g = refl
 
-pub not_true_false : (t : Bool) → (t ≡ true → ⊥) → t ≡ false
-not_true_false true f = absurd (f refl)
-not_true_false false f = refl
-
-pub and_left : (a b : Bool) → a && b ≡ true → a ≡ true
-and_left true b h = refl
-and_left false b h = h
-
-pub and_right : (a b : Bool) → a && b ≡ true → b ≡ true
-and_right true b h = h
-and_right false b h = clash h refl
-
 pub or_left : (a b : Bool) → a || b ≡ false → a ≡ false
 or_left true b h = h
 or_left false b h = refl
@@ -44,14 +32,6 @@ or_right false b h = h
 
 pub and_intro : {a b : Bool} → a ≡ true → b ≡ true → a && b ≡ true
 and_intro p q = rw (p, q)
-
-pub not_true : (b : Bool) → not b ≡ true → b ≡ false
-not_true true h = sym h
-not_true false h = refl
-
-pub not_false : (b : Bool) → not b ≡ false → b ≡ true
-not_false true h = refl
-not_false false h = absurd_eq (sym h)
 
 pub some_not_none : {A P : Type 0} {o : Option A} {a : A} → o ≡ Some a → o ≡ None → P
 some_not_none {o = o} p q = let z : ◌≡◌ {A = ℕ} 0 1 = cc in absurd (omega arith)

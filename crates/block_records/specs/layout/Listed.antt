@@ -2,7 +2,8 @@
 -- Assumes nothing.
 use Rattle.std.specs.declared.cmp.Ordering.{Ordering}
 use Rattle.std.specs.Ordering.{is_gt, is_lt}
-use Rattle.std.specs.Prelude.{Bool, ◌≡◌, List, ℕ, cond, leb, length, take}
+use Rattle.std.specs.List.{list_all}
+use Rattle.std.specs.Prelude.{Bool, ◌&&◌, ◌+◌, ◌≡◌, List, ℕ, cond, drop, leb, length, set, take}
 use Rattle.block_records.specs.declared.block_id.BlockId.{BlockId}
 use Rattle.block_records.specs.declared.block_id.BlockIdShort.{BlockIdShort}
 use Rattle.block_records.specs.declared.listed.Listed.{Listed}
@@ -29,6 +30,14 @@ TopBlocks = Listed TopBlock tops_limit
 -- the items below the count; a count past the places lists them all
 abbrev pub listed : {A : Type 0} {n : ℕ} → Listed A n → List A
 listed l = take l.count l.items
+
+-- one more item, in the place after those that are listed
+abbrev pub pushed : {A : Type 0} {n : ℕ} → A → Listed A n → Listed A n
+pushed a l = record { count = l.count + 1; items = set l.items l.count a }
+
+-- the count within n places, and p true of what stands after the items
+abbrev pub tidy_listed : {A : Type 0} (n : ℕ) → (A → Bool) → Listed A n → Bool
+tidy_listed n p l = leb l.count n && list_all p (drop l.count l.items)
 
 -- a put among n places: where it would be one too many, nothing changes
 abbrev pub put_listed : {A : Type 0} (n : ℕ) → A → (A → A → Bool) → A → Listed A n → Listed A n

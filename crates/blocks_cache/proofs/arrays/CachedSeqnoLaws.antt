@@ -1,7 +1,6 @@
 -- Seqnos beside the entries instead of removals: what is found among those still cached, and what one less makes of the groups.
 -- Assumes nothing.
 use Rattle.block_records.specs.layout.Listed.{packed}
-use Rattle.blocks_group.proofs.layout.GroupLaws.{listed_packed_each}
 use Rattle.blocks_group.specs.layout.Block.{shard_parts}
 use Rattle.blocks_group.specs.layout.Group.{held_empty_group, pack_group}
 use Rattle.blocks_group.specs.rules.Group.{GroupModel, at_seqno, entry_before, has_seqno, without}
@@ -16,7 +15,7 @@ use Rattle.blocks_cache.specs.declared.lookup.GroupSeqnos.{GroupSeqnos}
 use Rattle.block_records.proofs.arrays.LoopLaws.{padded_nil}
 use Rattle.block_records.proofs.rules.BlockIdLaws.{same_shard_true, shard_order}
 use Rattle.block_records.proofs.rules.ListLaws.{every_weaken}
-use Rattle.block_records.proofs.rules.Tests.{absurd_eq, and_left, and_right, not_true_false, on}
+use Rattle.block_records.proofs.rules.Tests.{absurd_eq, on}
 use Rattle.block_records.specs.layout.Entry.{pack_entry}
 use Rattle.block_records.specs.layout.Zeros.{zero_entry}
 use Rattle.block_records.specs.rules.BlockId.{id_shard, key, less_shard, same_shard}
@@ -28,6 +27,9 @@ use Rattle.blocks_cache.specs.arrays.Lookup.{cached_at, group_seqnos, no_seqnos,
 use Rattle.blocks_cache.specs.arrays.Shards.{ident_at, shard_ident}
 use Rattle.blocks_cache.specs.layout.Cache.{pack_shard, zero_shard_group}
 use Rattle.cache_rules.specs.Model.{ShardModel, block_under, on_shard, shard_before}
+use Rattle.std.proofs.lemmas.Bool.{false_from_ne_true}
+use Rattle.block_records.proofs.layout.EntryLaws.{take_padded}
+use Rattle.std.specs.Cmp.{first_so, second_so}
 
 -- ===== what the groups are now =====
 
@@ -109,8 +111,8 @@ module _ (n : ℕ) where
   keeps_all [] es a = refl
   keeps_all (x ∷ xs) [] a = refl
   keeps_all (x ∷ xs) (e ∷ es) a =
-      let k : not (has_seqno n e) ≡ true = and_left (not (has_seqno n e)) (list_all (λ (e : Entry). not (has_seqno n e)) es) a in
-      let ih = keeps_all xs es (and_right (not (has_seqno n e)) (list_all (λ (e : Entry). not (has_seqno n e)) es) a) in
+      let k : not (has_seqno n e) ≡ true = first_so (not (has_seqno n e)) (list_all (λ (e : Entry). not (has_seqno n e)) es) a in
+      let ih = keeps_all xs es (second_so (not (has_seqno n e)) (list_all (λ (e : Entry). not (has_seqno n e)) es) a) in
       on (is_some x) (λ c. rw (c, k, ih)) (λ c. rw c ih)
 
   -- the others have seqnos above
@@ -125,12 +127,12 @@ module _ (n : ℕ) where
   cached_leaves (x ∷ xs) [] j f w r = absurd (omega (arith, cached_within (x ∷ xs) [] j f w))
   cached_leaves (x ∷ xs) (e ∷ es) zero f w r =
       let q = hit_seqno x e f w.0 in
-      rw (hit x f, eq-eqb e.id.seqno n q) (keeps_all xs es (others_above e es q (and_left (list_all (entry_before e) es) (rising entry_before es) r)))
+      rw (hit x f, eq-eqb e.id.seqno n q) (keeps_all xs es (others_above e es q (first_so (list_all (entry_before e) es) (rising entry_before es) r)))
   cached_leaves (None ∷ xs) (e ∷ es) (suc j) f w r =
-      cached_leaves xs es j f.1 w.1 (and_right (list_all (entry_before e) es) (rising entry_before es) r)
+      cached_leaves xs es j f.1 w.1 (second_so (list_all (entry_before e) es) (rising entry_before es) r)
   cached_leaves (Some m ∷ xs) (e ∷ es) (suc j) f w r =
       rw (miss m e w.0 f.0)
-      (ap (λ (l : List Entry). e ∷ l) (cached_leaves xs es j f.1 w.1 (and_right (list_all (entry_before e) es) (rising entry_before es) r)))
+      (ap (λ (l : List Entry). e ∷ l) (cached_leaves xs es j f.1 w.1 (second_so (list_all (entry_before e) es) (rising entry_before es) r)))
 
   pub leaves_numbered : (xs : List (Option ℕ)) (es : List Entry) (j : ℕ) → FirstAt (cached_at n) xs j → Numbered xs es → Numbered (set xs j None) es
   leaves_numbered [] es j f w = absurd f
@@ -211,10 +213,10 @@ module _ (i : BlockId) where
   later_stay f [] gs g e a = refl
   later_stay f (s ∷ ss) [] g e a = refl
   later_stay f (s ∷ ss) (x ∷ gs) g e a =
-      let l : less_shard g.shard x.shard ≡ true = and_left (shard_before g x) (list_all (shard_before g) gs) a in
+      let l : less_shard g.shard x.shard ≡ true = first_so (shard_before g x) (list_all (shard_before g) gs) a in
       let n : same_shard x.shard (id_shard i) ≡ false =
-      not_true_false (same_shard x.shard (id_shard i)) (λ t. absurd_eq (sym (shard_order.irrefl g.shard) ∙ ap (less_shard g.shard) (e ∙ sym (same_shard_true x.shard (id_shard i) t)) ∙ l)) in
-      rw n (ap (λ (r : List ShardModel). now_shard s x ∷ r) (later_stay f ss gs g e (and_right (shard_before g x) (list_all (shard_before g) gs) a)))
+      false_from_ne_true (same_shard x.shard (id_shard i)) (λ t. absurd_eq (sym (shard_order.irrefl g.shard) ∙ ap (less_shard g.shard) (e ∙ sym (same_shard_true x.shard (id_shard i) t)) ∙ l)) in
+      rw n (ap (λ (r : List ShardModel). now_shard s x ∷ r) (later_stay f ss gs g e (second_so (shard_before g x) (list_all (shard_before g) gs) a)))
 
   -- a change of the seqnos is a change of the group
   pub change_in : (f : GroupModel → GroupModel) (s' : GroupSeqnos) (is : List ShardIdent) (ss : List GroupSeqnos) (gs : List ShardModel) (k : ℕ) (d : GroupSeqnos) (h : ShardModel) →
@@ -228,11 +230,11 @@ module _ (i : BlockId) where
       let e : g.shard ≡ id_shard i = same_shard_true g.shard (id_shard i) t in
       rw t
       (ap₂ (λ (y : GroupModel) (r : List ShardModel). record { shard = g.shard; group = y } ∷ r) (sym v)
-      (later_stay f ss gs g e (and_left (list_all (shard_before g) gs) (rising shard_before gs) r)))
+      (later_stay f ss gs g e (first_so (list_all (shard_before g) gs) (rising shard_before gs) r)))
   change_in f s' (x ∷ is) (s ∷ ss) (g ∷ gs) (suc k) d h a w r l v =
       rw (same_here x g false w.0 a.0)
       (ap (λ (r : List ShardModel). now_shard s g ∷ r)
-      (change_in f s' is ss gs k d h a.1 w.2 (and_right (list_all (shard_before g) gs) (rising shard_before gs) r) (le_of_suc-le-suc l) v))
+      (change_in f s' is ss gs k d h a.1 w.2 (second_so (list_all (shard_before g) gs) (rising shard_before gs) r) (le_of_suc-le-suc l) v))
 
 -- two changes of one group are one
 pub on_shard_twice : (s : ShardIdent) (f g : GroupModel → GroupModel) (gs : List ShardModel) → on_shard s g (on_shard s f gs) ≡ on_shard s (λ (x : GroupModel). g (f x)) gs
@@ -269,7 +271,7 @@ first_cached m (e ∷ es) = ap (λ (r : List Entry). e ∷ r) (first_cached m es
 
 first_seqnos : (g : GroupModel) → (group_seqnos (pack_group shard_parts g)).entries ≡ map seqno_here (map pack_entry g.entries) ++ replicate (16 - length (map seqno_here (map pack_entry g.entries))) None
 unfolding padded
-first_seqnos g = ap (λ (bs : List BlockCacheEntry). map seqno_here bs ++ replicate (16 - length (map seqno_here bs)) None) (listed_packed_each 16 zero_entry pack_entry g.entries)
+first_seqnos g = ap (λ (bs : List BlockCacheEntry). map seqno_here bs ++ replicate (16 - length (map seqno_here bs)) None) (take_padded 16 zero_entry (map pack_entry g.entries))
 
 abbrev spare : GroupModel → ℕ
 spare g = 16 - length (map seqno_here (map pack_entry g.entries))

@@ -1,5 +1,6 @@
--- The collated store of the whole cache: it leaves nothing free, and on a sound cache it is the rule, packed.
+-- The collated store of the whole cache is the rule, packed, on a sound cache; and after the questions of its record it is the call.
 -- Assumes nothing.
+use Rattle.blocks_cache.proofs.layout.AskedLaws.{asked_sound, own_refused, rest_decides, sound_passes}
 use Rattle.block_records.specs.declared.questions.Refusal.{Refusal}
 use Rattle.block_records.specs.declared.questions.Refusal.TheVariants.{AlreadyStored, NoIdRoom, NoRoom}
 use Rattle.std.specs.List.{find}
@@ -7,63 +8,34 @@ use Rattle.std.specs.Prelude.{Option, None, Some, cond, is_some, Err, Ok, Result
 use Rattle.std.proofs.Common.{◌≡◌, Bool, true, false, not, ◌&&◌, ◌||◌, ltb, List, [], ◌∷◌, ◌++◌, length, sym, refl, ap, ◌∙◌}
 use Rattle.block_records.specs.declared.block_id.BlockId.{BlockId}
 use Rattle.block_records.specs.declared.block_id.ShardIdent.{ShardIdent}
-use Rattle.block_records.specs.declared.entry.BlockCacheEntry.{BlockCacheEntry}
-use Rattle.block_records.specs.declared.entry.MasterBlock.{MasterBlock}
 use Rattle.block_records.specs.declared.store_records.BlockCandidate.{BlockCandidate}
 use Rattle.blocks_group.specs.declared.store.GroupStore.{GroupStore}
-use Rattle.blocks_group.specs.declared.store.StoreAnswer.{StoreAnswer}
-use Rattle.blocks_group.specs.declared.store.StoreAnswer.TheVariants.{Stored as stored_answer, Synced as synced_answer}
+use Rattle.blocks_group.specs.declared.store.StoreAnswer.TheVariants.{Stored as stored_answer}
 use Rattle.blocks_cache.specs.declared.cache.Cache.{Cache}
 use Rattle.blocks_cache.specs.declared.master_data.MasterData.{MasterData}
-use Rattle.blocks_cache.specs.declared.stores.BlockCacheStoreResult.{BlockCacheStoreResult}
 use Rattle.block_records.proofs.layout.QuestionLaws.{first_no_append, or_else}
 use Rattle.block_records.proofs.rules.Tests.{absurd_eq, on}
 use Rattle.block_records.specs.rules.BlockId.{id_shard, is_masterchain, same_id}
 use Rattle.block_records.specs.rules.Entry.{Entry, is_received}
 use Rattle.block_records.specs.rules.Lists.{put}
-use Rattle.block_records.specs.rules.Questions.{Question, ask, candidate_questions, first_no}
-use Rattle.blocks_group.proofs.arrays.StoreLaws.{ModelStore, collated_outcome, collated_place_questions, model_room, outcome, pack_store, store_collated_packed, with_change}
+use Rattle.block_records.specs.rules.Questions.{Question, ask, candidate_questions, first_no, check_candidate}
+use Rattle.blocks_group.proofs.arrays.StoreLaws.{collated_outcome, collated_place_questions, model_room, pack_store, pack_stored, store_collated_packed, stored_into, unless, with_change}
 use Rattle.blocks_group.specs.arrays.Store.{collated_store}
 use Rattle.blocks_group.specs.layout.Block.{BlockLaws, BlockParts, master_laws, master_parts, shard_laws, shard_parts}
-use Rattle.blocks_group.specs.layout.Group.{MasterGroup, ShardBlocks, pack_group}
+use Rattle.blocks_group.specs.layout.Group.{pack_group}
 use Rattle.blocks_group.specs.rules.Group.{GroupModel, Stored, store_collated_at, vacant_or}
 use Rattle.blocks_cache.proofs.arrays.MasterDataLaws.{has_place_for_id_packed, put_id_packed}
-use Rattle.blocks_cache.proofs.arrays.StoresLaws.{Zeroed, group_fits, has_room_is, held_zeroed, neither, nothing_zeroed, pick_zeroed, shard_room, store_leaves, stored_packed, stored_zeroed, where_held_packed, with_shard_packed}
+use Rattle.blocks_cache.proofs.arrays.StoresLaws.{group_fits, has_room_is, neither, shard_room, store_leaves, stored_packed, where_held_packed, with_shard_packed, store_outcome}
 use Rattle.blocks_cache.proofs.layout.CallOnLaws.{on_sound}
-use Rattle.blocks_cache.specs.arrays.MasterData.{has_place_for_id, id_at}
-use Rattle.blocks_cache.specs.arrays.Stores.{collated_ids, master_candidate_stored, nothing_stored, shard_candidate_stored, shard_held, store_candidate, store_master_candidate, store_outcome, store_shard_candidate, stored_in, with_masters_and_data, with_shard_group}
-use Rattle.blocks_cache.specs.layout.Cache.{HeldOutcome, answered_on, pack, pack_outcome, sound_cache, view}
+use Rattle.blocks_cache.specs.arrays.MasterData.{id_at}
+use Rattle.blocks_cache.specs.arrays.Stores.{collated_ids, master_candidate_stored, shard_candidate_stored, store_candidate, store_master_candidate, store_shard_candidate, answered_in, shard_candidate_in, unless_refused, with_masters_and_data, StoreStep}
+use Rattle.blocks_cache.specs.layout.Cache.{HeldOutcome, answered_on, pack, pack_outcome, sound_cache, view, unlent_outcome, call_on}
 use Rattle.cache_rules.proofs.SoundLaws.{parts}
 use Rattle.cache_rules.proofs.StoreLaws.{ids_length, inserts_is}
 use Rattle.cache_rules.specs.Calls.{refused, store_collated, unlent}
 use Rattle.cache_rules.specs.Effects.{answered, collated_data, effect, store_change}
 use Rattle.cache_rules.specs.Model.{Model, entry_for, find_shard, group_for, id_before, moved_start, set_group, with_ids_and_range, with_masters, with_shards}
 use Rattle.cache_rules.specs.Refusals.{further, has_id_room, has_room, inserts_or_updates, sound_model}
-
--- ===== nothing is left free =====
-
-module _ (c : BlockCandidate) (h : Cache) where
-  master_zeroed : (a : Result StoreAnswer Refusal) (g : MasterGroup) → Zeroed (master_candidate_stored c (record { answer = a; group = g }) h)
-  master_zeroed (Ok (stored_answer both mismatch)) g =
-      pick_zeroed mismatch _ _ (stored_zeroed both mismatch h)
-      (pick_zeroed (has_place_for_id c.block_id.seqno h.«data») _ _
-      (stored_zeroed both mismatch (with_masters_and_data g (collated_ids c.block_id h.«data») h)) (nothing_zeroed (Err NoIdRoom) h))
-  master_zeroed (Ok synced_answer) g = refl
-  master_zeroed (Err n) g = refl
-
-  shard_zeroed : (a : Result StoreAnswer Refusal) (g : ShardBlocks) → Zeroed (shard_candidate_stored (id_shard c.block_id) (record { answer = a; group = g }) h)
-  shard_zeroed (Ok (stored_answer both mismatch)) g =
-      pick_zeroed mismatch _ _ (stored_zeroed both mismatch h) (stored_zeroed both mismatch (with_shard_group (record { shard = id_shard c.block_id; group = g }) h.«data» h))
-  shard_zeroed (Ok synced_answer) g = refl
-  shard_zeroed (Err n) g = refl
-
-  pub candidate_zeroed : Zeroed (store_candidate c h)
-  unfolding store_candidate store_master_candidate store_shard_candidate
-  candidate_zeroed =
-      let s = collated_store master_parts c h.masters in
-      pick_zeroed (is_masterchain (id_shard c.block_id)) _ _ (master_zeroed s.answer s.group)
-      (held_zeroed (shard_held (id_shard c.block_id) h.shards) (λ (g : ShardBlocks). shard_candidate_stored (id_shard c.block_id) (collated_store shard_parts c g) h) h
-      (λ g. let s = collated_store shard_parts c g in shard_zeroed s.answer s.group))
 
 -- ===== on a packed cache =====
 
@@ -112,27 +84,30 @@ module _ (c : BlockCandidate) (m : Model) (ok : sound_model m ≡ true) where
   nine_decides true = refl
   nine_decides false = refl
 
+  made_packed : {B : Type 0} (k : BlockParts B) → BlockLaws k → collated_store k c (pack_group k its_group) ≡ pack_store k (collated_outcome c (entry_for i m) its_group)
+  made_packed k laws = let f = group_fits shard_of m ok in store_collated_packed k laws its_group f.0 f.1 c
+
   -- The store of the block's group, whichever group it is: what the cache makes of the answer is the rule, if it is so of an answer that is stored. 7 and
   -- 8 are those of the group, where there is one or can be.
-  module _ (put : ModelStore → BlockCacheStoreResult) (refuses : (n : Refusal) → put (record { answer = Err n; group = its_group }) ≡ nothing_stored (Err n) (pack m))
-      (stores : store_outcome (put (record { answer = Ok (stored_answer made_of.both made_of.mismatch); group = with_change made_of.change its_group })) ≡ by_nine (has_id_room c m) made_of)
+  module _ {B : Type 0} (k : BlockParts B) (laws : BlockLaws k) (made : GroupStore B → StoreStep)
+      (stores : store_outcome (made (pack_stored k (stored_into made_of (with_change made_of.change its_group)))) ≡ by_nine (has_id_room c m) made_of)
       (room : is_masterchain shard_of || shard_room shard_of m ≡ true) where
     abbrev asked : List Question
     asked = collated_place_questions (entry_for i m) (model_room its_group)
 
-    by_refusal : (q : Option Refusal) → store_outcome (put (outcome q made_of (with_change made_of.change its_group) its_group)) ≡ by_rule (or_else q (first_no (ask NoIdRoom (has_id_room c m) ∷ [])))
+    by_refusal : (q : Option Refusal) →
+        store_outcome (unless_refused (pack_store k (unless q (stored_into made_of (with_change made_of.change its_group)))) made (pack m))
+        ≡ by_rule (or_else q (first_no (ask NoIdRoom (has_id_room c m) ∷ [])))
     by_refusal None = stores ∙ nine_decides (has_id_room c m)
-    by_refusal (Some n) = ap store_outcome (refuses n)
+    by_refusal (Some n) = refl
 
-    put_by_rule : store_outcome (put (collated_outcome c (entry_for i m) its_group)) ≡ by_rule (first_no (candidate_rest c m))
+    put_by_rule : store_outcome (unless_refused (collated_store k c (pack_group k its_group)) made (pack m)) ≡ by_rule (first_no (candidate_rest c m))
     put_by_rule =
-        by_refusal (first_no asked)
+        ap (λ (s : Result (GroupStore B) Refusal). store_outcome (unless_refused s made (pack m))) (made_packed k laws)
+        ∙ by_refusal (first_no asked)
         ∙ ap by_rule
         (sym (first_no_append asked (ask NoIdRoom (has_id_room c m) ∷ []))
         ∙ ap (λ (b : Bool). first_no (ask AlreadyStored (vacant_or is_received (entry_for i m)) ∷ ask NoRoom b ∷ ask NoIdRoom (has_id_room c m) ∷ [])) (sym (has_room_is i m room)))
-
-  made_packed : {B : Type 0} (k : BlockParts B) → BlockLaws k → collated_store k c (pack_group k its_group) ≡ pack_store k (collated_outcome c (entry_for i m) its_group)
-  made_packed k laws = let f = group_fits shard_of m ok in store_collated_packed k laws c its_group f.0 f.1
 
   -- ===== a master =====
 
@@ -151,17 +126,14 @@ module _ (c : BlockCandidate) (m : Model) (ok : sound_model m ≡ true) where
     ids_collated : placed ≡ true → collated_ids i (pack m).«data» ≡ (pack (with_ids_and_range (put id_before i m.ids) (moved_start i.seqno m.range) m)).«data»
     ids_collated u = put_id_packed i (with_ids_and_range m.ids (moved_start i.seqno m.range) m) (ids_length i (find (id_at i.seqno) m.ids) m.ids (parts m ok).rest.ids refl u)
 
-    abbrev put_master : ModelStore → BlockCacheStoreResult
-    put_master s = master_candidate_stored c (pack_store master_parts s) (pack m)
-
     master_stored : (both mismatch : Bool) (x : Option Entry) → (mismatch ≡ true → x ≡ None) →
-        store_outcome (put_master (record { answer = Ok (stored_answer both mismatch); group = with_change x its_group }))
+        store_outcome (master_candidate_stored c (pack m) (record { answer = stored_answer both mismatch; group = pack_group master_parts (with_change x its_group) }))
         ≡ by_nine (mismatch || placed) (record { change = x; both = both; mismatch = mismatch })
     master_stored both true x none_there = rw (none_there refl, side) (stored_packed both true m)
     master_stored both false x none_there =
         on placed
         (λ u. rw (has_place_for_id_packed i.seqno m, u)
-        (ap (λ (d : MasterData). store_outcome (stored_in (Ok (stored_answer both false)) (with_masters_and_data (pack_group master_parts (with_change x its_group)) d (pack m)))) (ids_collated u)
+        (ap (λ (d : MasterData). store_outcome (answered_in (stored_answer both false) (with_masters_and_data (pack_group master_parts (with_change x its_group)) d (pack m)))) (ids_collated u)
         ∙ stored_packed both false (master_left x)
         ∙ ap (store_leaves both false) (left_by_rule x)))
         (λ u. rw (has_place_for_id_packed i.seqno m, u))
@@ -174,29 +146,25 @@ module _ (c : BlockCandidate) (m : Model) (ok : sound_model m ≡ true) where
     unfolding store_master_candidate
     master_packed =
         let e : m.masters ≡ its_group = rw side in
-        ap (λ (g : GroupModel). store_outcome (master_candidate_stored c (collated_store master_parts c (pack_group master_parts g)) (pack m))) e
-        ∙ ap (λ (s : GroupStore MasterBlock). store_outcome (master_candidate_stored c s (pack m))) (made_packed master_parts master_laws)
-        ∙ put_by_rule put_master (λ n. refl)
+        ap (λ (g : GroupModel). store_outcome (unless_refused (collated_store master_parts c (pack_group master_parts g)) (master_candidate_stored c (pack m)) (pack m))) e
+        ∙ put_by_rule master_parts master_laws (master_candidate_stored c (pack m))
         (master_stored made_of.both made_of.mismatch made_of.change (mismatch_keeps c (entry_for i m)) ∙ ap (λ (nine : Bool). by_nine nine made_of) (sym nine_of_master))
         (rw side)
 
   -- ===== a shard block =====
 
   module _ (side : is_masterchain shard_of ≡ false) where
-    abbrev put_shard_block : ModelStore → BlockCacheStoreResult
-    put_shard_block s = shard_candidate_stored shard_of (pack_store shard_parts s) (pack m)
-
     -- for a new shard there are 8 groups
     shard_refused : shard_room shard_of m ≡ false → first_no (candidate_rest c m) ≡ Some NoRoom
     shard_refused t = let n = neither (find_shard shard_of m.shards) (ltb (length m.shards) 8) t in rw (side, n.0, n.1)
 
     shard_stored : shard_room shard_of m ≡ true → (both mismatch : Bool) (x : Option Entry) → (mismatch ≡ true → x ≡ None) → (mismatch ≡ false → is_some x ≡ true) →
-        store_outcome (put_shard_block (record { answer = Ok (stored_answer both mismatch); group = with_change x its_group }))
+        store_outcome (shard_candidate_stored shard_of (pack m) (record { answer = stored_answer both mismatch; group = pack_group shard_parts (with_change x its_group) }))
         ≡ by_nine true (record { change = x; both = both; mismatch = mismatch })
     shard_stored t both true x keeps puts = rw (keeps refl, side) (stored_packed both true m)
     shard_stored t both false None keeps puts = absurd_eq (puts refl)
     shard_stored t both false (Some e) keeps puts =
-        ap (λ (k : Cache). store_outcome (stored_in (Ok (stored_answer both false)) k)) (with_shard_packed shard_of m ok (with_change (Some e) its_group) m.ids m.range side t)
+        ap (λ (k : Cache). store_outcome (answered_in (stored_answer both false) k)) (with_shard_packed shard_of m ok (with_change (Some e) its_group) m.ids m.range side t)
         ∙ stored_packed both false (with_shards (set_group shard_of (with_change (Some e) its_group) m.shards) m)
         ∙ rw side
 
@@ -204,10 +172,9 @@ module _ (c : BlockCandidate) (m : Model) (ok : sound_model m ≡ true) where
     unfolding store_shard_candidate
     shard_packed =
         let nine : has_id_room c m ≡ true = rw side in
-        where_held_packed shard_of m (parts m ok).rest.shards.order (λ (g : ShardBlocks). shard_candidate_stored shard_of (collated_store shard_parts c g) (pack m)) (by_rule (first_no (candidate_rest c m))) side
+        where_held_packed shard_of m (parts m ok).rest.shards.order (shard_candidate_in c (pack m)) (by_rule (first_no (candidate_rest c m))) side
         (λ t.
-        ap (λ (s : GroupStore BlockCacheEntry). store_outcome (shard_candidate_stored shard_of s (pack m))) (made_packed shard_parts shard_laws)
-        ∙ put_by_rule put_shard_block (λ n. refl)
+        put_by_rule shard_parts shard_laws (shard_candidate_stored shard_of (pack m))
         (shard_stored t made_of.both made_of.mismatch made_of.change (mismatch_keeps c (entry_for i m)) (match_changes c (entry_for i m)) ∙ ap (λ (b : Bool). by_nine b made_of) (sym nine))
         (rw (side, t)))
         (λ t. ap by_rule (sym (shard_refused t)))
@@ -220,10 +187,20 @@ module _ (c : BlockCandidate) (m : Model) (ok : sound_model m ≡ true) where
 
 -- ===== on a sound cache =====
 
-pub candidate_decided : (c : BlockCandidate) (h : Cache) → sound_cache h ≡ true →
+candidate_decided : (c : BlockCandidate) (h : Cache) → sound_cache h ≡ true →
     store_outcome (store_candidate c h) ≡ answered_on (first_no (candidate_rest c (view h))) h (unlent (store_collated c))
 candidate_decided c h ok = on_sound (unlent (store_collated c)) (λ (x : Cache). store_outcome (store_candidate c x)) (candidate_rest c) (candidate_packed c) h ok
 
-pub candidate_split : (c : BlockCandidate) (h : Cache) → further (view h) 0 (store_collated c) ≡ candidate_questions c ++ candidate_rest c (view h)
+candidate_split : (c : BlockCandidate) (h : Cache) → further (view h) 0 (store_collated c) ≡ candidate_questions c ++ candidate_rest c (view h)
 unfolding further
 candidate_split c h = refl
+
+-- ===== the call =====
+
+module _ (c : BlockCandidate) (h : Cache) where
+  pub candidate_refused : (n : Refusal) → asked_sound h ≡ Ok tt → check_candidate c ≡ Err n → unlent_outcome h (refused n) ≡ call_on h (unlent (store_collated c))
+  candidate_refused n sound e = own_refused h (store_collated c) (candidate_questions c) (candidate_rest c (view h)) (candidate_split c h) sound n e
+
+  pub candidate_is : asked_sound h ≡ Ok tt → check_candidate c ≡ Ok tt → store_outcome (store_candidate c h) ≡ call_on h (unlent (store_collated c))
+  candidate_is sound e =
+      candidate_decided c h (sound_passes h sound) ∙ rest_decides h (store_collated c) (candidate_questions c) (candidate_rest c (view h)) (candidate_split c h) sound e

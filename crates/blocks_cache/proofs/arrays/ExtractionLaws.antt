@@ -1,10 +1,19 @@
--- What extraction does to the groups in their places, one after the other.
+-- The starting items as they are listed; what extraction does to the groups in their places, one after the other.
 -- Assumes nothing.
 use Rattle.std.proofs.Common.{◌≡◌, ℕ, zero, suc, ◌<◌, List, [], ◌∷◌, length, get_or, sym, refl, ap, ◌∙◌, ap₂, le_of_suc-le-suc, arith}
 use native.Mathlib.Nat.{suc_inj}
+use Rattle.block_records.specs.declared.top_block.TopBlock.{TopBlock}
+use Rattle.block_records.specs.layout.Listed.{TopBlocks}
+use Rattle.block_records.proofs.layout.EntryLaws.{view_pack_tops}
+use Rattle.block_records.specs.layout.Entry.{pack_tops}
+use Rattle.block_records.specs.rules.BlockId.{listed_tops}
 use Rattle.blocks_cache.specs.declared.cache.ShardGroup.{ShardGroup}
 use Rattle.blocks_cache.specs.declared.lookup.GroupSeqnos.{GroupSeqnos}
-use Rattle.blocks_cache.specs.arrays.Extraction.{compact_shard, compact_shards}
+use Rattle.blocks_cache.specs.arrays.Extraction.{compact_shard, compact_shards, held_starting_items}
+
+-- the starting items that are listed are the rule's
+pub starting_listed : (z : ℕ) (t s : TopBlocks) (xs : List TopBlock) → s ≡ pack_tops (held_starting_items z t) → xs ≡ listed_tops s → xs ≡ held_starting_items z t
+starting_listed z t s xs made listed_is = listed_is ∙ ap listed_tops made ∙ view_pack_tops (held_starting_items z t)
 
 pub length_compact : (gs : List ShardGroup) (ss : List GroupSeqnos) → length gs ≡ length ss → length (compact_shards gs ss) ≡ length gs
 length_compact [] ss e = refl

@@ -4,12 +4,12 @@ use Rattle.blocks_group.proofs.rules.GroupLaws.{previous_two}
 use Rattle.blocks_group.specs.rules.Group.{GroupModel, refresh, refreshed_mark, with_entries, without}
 use Rattle.blocks_group.specs.rules.Soundness.{fits_in, of_shard}
 use Rattle.std.specs.Prelude.{Option, None, Some, map}
-use Rattle.std.proofs.lemmas.List.{length-reverse, reverse-reverse}
+use Rattle.std.proofs.lemmas.List.{length-reverse, reverse-reverse, get_or_default, length-map}
 use Rattle.std.proofs.lemmas.Grind.{reverse_onto}
 use mathlib.Core.List.{reverse}
 use Rattle.blocks_cache.proofs.layout.CacheLaws.{sound_cache_packed}
 use Rattle.blocks_cache.specs.layout.Cache.{Shards}
-use Rattle.std.proofs.Common.{ap₂, ◌≡◌, ℕ, zero, suc, ◌+◌, ◌-◌, ◌*◌, ◌<◌, ◌≤◌, true, false, eqb, List, [], ◌∷◌, ◌++◌, length, get_or, take, drop, set, replicate, sym, refl, ap, ◌∙◌, subst, subst₂, le_refl, arith, length-append, length-drop, length-set, drop_of_length-le, length-take-le, get_or-take, eq-eqb, ne_eqb}
+use Rattle.std.proofs.Common.{ap₂, ◌≡◌, ℕ, zero, suc, ◌+◌, ◌-◌, ◌*◌, ◌<◌, ◌≤◌, true, false, eqb, List, [], ◌∷◌, ◌++◌, length, get_or, take, drop, set, replicate, sym, refl, ap, ◌∙◌, subst, le_refl, arith, length-append, length-drop, length-set, drop_of_length-le, length-take-le, get_or-take, eq-eqb, ne_eqb}
 use lib.Seq.{drop-append-le, drop_at, take_at, take-append-add}
 use Rattle.block_records.specs.declared.block_id.BlockId.{BlockId}
 use Rattle.block_records.specs.declared.block_id.ShardIdent.{ShardIdent}
@@ -20,12 +20,11 @@ use Rattle.blocks_cache.specs.declared.cache.ShardGroup.{ShardGroup}
 use Rattle.blocks_cache.specs.declared.extraction.Extraction.{Extraction}
 use Rattle.block_records.specs.declared.listed.Listed.{Listed}
 use Rattle.block_records.specs.layout.Listed.{listed, packed}
+use Rattle.blocks_cache.specs.declared.lookup.BlockIndex.{BlockIndex}
 use Rattle.blocks_cache.specs.declared.lookup.GroupSeqnos.{GroupSeqnos}
-use Rattle.block_records.proofs.arrays.ArrayLaws.{all_get_d, get_d_any, length_padded}
+use Rattle.block_records.proofs.arrays.ArrayLaws.{all_get_d, length_padded}
 use Rattle.block_records.proofs.arrays.LoopLaws.{drop_next, set_padded}
 use Rattle.block_records.proofs.layout.EntryLaws.{take_padded}
-use Rattle.block_records.proofs.rules.ListLaws.{length_each}
-use Rattle.block_records.proofs.rules.Tests.{and_right}
 use Rattle.std.specs.List.{position}
 use Rattle.block_records.specs.layout.Entry.{pack_entry, view_shard_entry}
 use Rattle.block_records.specs.layout.Zeros.{zero_entry, zero_id}
@@ -35,10 +34,10 @@ use Rattle.block_records.specs.rules.Lists.{padded}
 use Rattle.block_records.specs.rules.Questions.{entry_fits}
 use Rattle.blocks_cache.proofs.arrays.CachedSeqnoLaws.{Indexed, Numbered, cached_leaves, change_in, compact_shards_packed, indexed_set, leaves_numbered, length_now, now_group, now_shards, on_shard_twice}
 use Rattle.blocks_cache.proofs.arrays.FirstPlaceLaws.{FirstAt, Placed, placed}
-use Rattle.blocks_cache.proofs.arrays.LookupLaws.{absent_looked_up, all_cached, at_entry, at_group, block_looked_up, block_read, eight_groups, entries_numbered, entry_here, entry_listed, few_groups, first_index, found_group_sound, group_here, group_listed, held_is, shards_ok}
+use Rattle.blocks_cache.proofs.arrays.LookupLaws.{absent_looked_up, all_cached, at_group, block_looked_up, block_read, eight_groups, entries_numbered, entry_here, entry_listed, few_groups, first_index, found_group_sound, group_here, group_listed, held_is, shards_ok}
 use Rattle.blocks_cache.specs.arrays.Extraction.{compact_shards, held_starting_ids, pack_extraction, still_cached, view_master}
-use Rattle.blocks_cache.specs.arrays.Lookup.{block_place, cached_at, no_seqnos, shard_seqnos}
-use Rattle.blocks_cache.specs.arrays.Shards.{ident_at, shard_ident}
+use Rattle.blocks_cache.specs.arrays.Lookup.{block_place, cached_at, index_of, no_seqnos}
+use Rattle.blocks_cache.specs.arrays.Shards.{ident_at}
 use Rattle.blocks_cache.specs.layout.Cache.{pack_shard, sound_cache, view, view_shard, zero_shard_group}
 use Rattle.cache_rules.proofs.CountLaws.{blocks_cached, records, same_end, shards_blocks}
 use Rattle.cache_rules.proofs.ExtractionLaws.{ends}
@@ -46,6 +45,7 @@ use Rattle.cache_rules.proofs.SoundLaws.{shard_parts}
 use Rattle.cache_rules.specs.Extraction.{Walk, extraction_of, first_walk, previous_cached, previous_in, starting_ids, take_found, take_id, take_one, take_times}
 use Rattle.cache_rules.specs.Model.{ShardModel, block_under, on_shard, refresh_shard, remove_block}
 use Rattle.cache_rules.specs.Refusals.{sound_shard_model}
+use Rattle.std.specs.Cmp.{second_so}
 
 -- ===== lists =====
 
@@ -124,19 +124,19 @@ module _ (c : Cache) (ok : sound_cache c ≡ true) (b : MasterBlock) where
   abbrev starting : List BlockId
   starting = starting_ids c.zerostate_mc_seqno (view_master b)
 
-  pub run_starts : (idents : List ShardIdent) (seqnos : List GroupSeqnos) (waiting : Listed BlockId 264) (joined : Listed BlockCacheEntry 128) (z : BlockCacheEntry) →
-      idents ≡ map shard_ident c.shards.items → seqnos ≡ map shard_seqnos c.shards.items → waiting ≡ packed 264 zero_id (held_starting_ids c.zerostate_mc_seqno b.tops) →
-      waiting.count ≤ 8 → joined ≡ packed 128 z [] → z ≡ zero_entry → Run c b idents seqnos waiting.items waiting.count joined.items joined.count 0
-  run_starts idents seqnos waiting joined z i s l few e ez =
+  pub run_starts : (index : BlockIndex) (waiting : Listed BlockId 264) (joined : Listed BlockCacheEntry 128) (z : BlockCacheEntry) →
+      index ≡ index_of c.shards → waiting ≡ packed 264 zero_id (held_starting_ids c.zerostate_mc_seqno b.tops) →
+      waiting.count ≤ 8 → joined ≡ packed 128 z [] → z ≡ zero_entry → Run c b index.idents index.seqnos waiting.items waiting.count joined.items joined.count 0
+  run_starts index waiting joined z i l few e ez =
       let n : waiting.count ≡ length starting = ap (λ (x : Listed BlockId 264). x.count) l in
       let m : joined.count ≡ 0 = ap (λ (x : Listed BlockCacheEntry 128). x.count) e in
       record {
         walk = first_of c b;
         turns = refl;
         taken = refl;
-        index = subst₂ (λ (x : List ShardIdent) (y : List GroupSeqnos). Indexed x y gs) (sym i) (sym s) (first_index c ok);
-        now = sym (ap (λ (x : List GroupSeqnos). now_shards x gs) s ∙ all_cached c ok);
-        groups = ap length s ∙ eight_groups c ok;
+        index = subst (λ (x : BlockIndex). Indexed x.idents x.seqnos gs) (sym i) (first_index c ok);
+        now = sym (ap (λ (x : BlockIndex). now_shards x.seqnos gs) i ∙ all_cached c ok);
+        groups = ap (λ (x : BlockIndex). length x.seqnos) i ∙ eight_groups c ok;
         places = ap (λ (x : Listed BlockId 264). length x.items) l ∙ length_padded 264 zero_id starting (omega arith);
         passed = omega arith;
         waits = ap listed l ∙ take_padded 264 zero_id starting;
@@ -154,7 +154,7 @@ module _ (c : Cache) (ok : sound_cache c ≡ true) (b : MasterBlock) where
   all_few : blocks_cached gs ≤ 128
   all_few = omega (arith, shards_blocks gs (shards_ok c ok).each_ok, few_groups c ok)
 
-  module _ (idents : List ShardIdent) (seqnos : List GroupSeqnos) (ids : List BlockId) (count : ℕ) (blocks : List BlockCacheEntry) (joined head : ℕ)
+  module _ {idents : List ShardIdent} {seqnos : List GroupSeqnos} {ids : List BlockId} {count : ℕ} {blocks : List BlockCacheEntry} {joined head : ℕ}
       (r : Run c b idents seqnos ids count blocks joined head) where
     abbrev w : Walk
     w = r.walk
@@ -239,7 +239,7 @@ module _ (c : Cache) (ok : sound_cache c ≡ true) (b : MasterBlock) where
           fits = all_get_d (fits_in (of_shard g.shard)) es j (view_shard_entry zero_entry) (shard_parts g group_ok).fit (entry_listed c ok id idents seqnos r.index k f j q)
 
           two : length block_here.previous ≤ 2
-          two = previous_two block_here (and_right (of_shard g.shard (id_shard block_here.id)) (entry_fits block_here) fits)
+          two = previous_two block_here (second_so (of_shard g.shard (id_shard block_here.id)) (entry_fits block_here) fits)
 
           gone_now : (h : GroupModel → GroupModel) (s' : GroupSeqnos) → now_group s' g.group ≡ h (now_group s g.group) → on_shard (id_shard id) h w.shards ≡ now_shards (set seqnos k s') gs
           gone_now h s' v =
@@ -306,7 +306,7 @@ module _ (c : Cache) (ok : sound_cache c ≡ true) (b : MasterBlock) where
                 let t : ps ≡ block_here.previous = p ∙ ap (λ (x : BlockCacheEntry). listed x.prev_ids) u ∙ take_padded 2 zero_id block_here.previous in
                 let n : length ps ≡ length block_here.previous = ap length t in
                 let f : length (take count ids) ≡ count = length-take-le count ids (omega (arith, r.few_ids, r.places)) in
-                let l : length (map pack_entry (reverse js)) ≡ joined = length_each pack_entry (reverse js) ∙ length-reverse js ∙ sym r.joins in
+                let l : length (map pack_entry (reverse js)) ≡ joined = length-map (reverse js) pack_entry ∙ length-reverse js ∙ sym r.joins in
                 record {
                   walk = w';
                   turns = joined_turns;
@@ -356,17 +356,14 @@ module _ (c : Cache) (ok : sound_cache c ≡ true) (b : MasterBlock) where
         q : Placed id idents seqnos k j
         q = placed id idents seqnos k j p
 
-        pub group_within : k < 8
+        group_within : k < 8
         group_within = at_group c ok id idents seqnos r.index k q.group j q.entry
-
-        pub entry_within : j < 16
-        entry_within = at_entry c ok id idents seqnos r.index k q.group j q.entry
 
         abbrev read : ShardGroup → BlockCacheEntry → BlockCacheEntry
         read y x = get_or (get_or c.shards.items k y).group.entries.items j x
 
         old_is : (u : GroupSeqnos) → get_or seqnos k u ≡ get_or seqnos k no_seqnos
-        old_is u = get_d_any seqnos k u no_seqnos (omega (arith, group_within, r.groups))
+        old_is u = get_or_default seqnos k u no_seqnos (omega (arith, group_within, r.groups))
 
         same_reference : (y : ShardGroup) (x : BlockCacheEntry) → (read y x).ref_by_mc_seqno ≡ (block_here k q.group j q.entry).reference
         same_reference y x = ap (λ (n : BlockCacheEntry). n.ref_by_mc_seqno) (block_read c ok id idents seqnos r.index k q.group j q.entry y x)
@@ -420,18 +417,18 @@ module _ (c : Cache) (ok : sound_cache c ≡ true) (b : MasterBlock) where
         ∙ same_end head k mc_seqno (first_of c b) (ap (λ (x : Walk). x.waiting) (sym r.turns) ∙ nothing_waits h) (ends k mc_seqno (first_of c b) (le_refl k)) in
         let js = w.joined in
         let q : length (map pack_shard (now_shards seqnos gs)) ≡ length (map pack_shard gs) =
-        length_each pack_shard (now_shards seqnos gs) ∙ length_now idents seqnos gs r.index ∙ sym (length_each pack_shard gs) in
+        length-map (now_shards seqnos gs) pack_shard ∙ length_now idents seqnos gs r.index ∙ sym (length-map gs pack_shard) in
         let p : shards.items ≡ padded 8 zero_shard_group (map pack_shard w.shards) =
         a ∙ ap (λ (x : List ShardGroup). compact_shards x seqnos) (held_is c ok)
-        ∙ compact_shards_packed (8 - length (map pack_shard gs)) idents seqnos gs r.index (omega (arith, r.groups, few_groups c ok, length_each pack_shard gs))
+        ∙ compact_shards_packed (8 - length (map pack_shard gs)) idents seqnos gs r.index (omega (arith, r.groups, few_groups c ok, length-map gs pack_shard))
         ∙ ap (λ (x : ℕ). map pack_shard (now_shards seqnos gs) ++ replicate (8 - x) zero_shard_group) (sym q)
         ∙ ap (λ (x : List ShardModel). padded 8 zero_shard_group (map pack_shard x)) (sym r.now) in
         let m : shards.count ≡ length (map pack_shard w.shards) =
         n ∙ ap (λ (x : Cache). x.shards.count) (sound_cache_packed c ok).0 ∙ sym q ∙ ap (λ (x : List ShardModel). length (map pack_shard x)) (sym r.now) in
         let es = map pack_entry (reverse js) in
-        let l : length es ≡ joined = length_each pack_entry (reverse js) ∙ length-reverse js ∙ sym r.joins in
+        let l : length es ≡ joined = length-map (reverse js) pack_entry ∙ length-reverse js ∙ sym r.joins in
         let t : reverse es ≡ map pack_entry js = sym (each_reverse pack_entry (reverse js)) ∙ ap (map pack_entry) (reverse-reverse js) in
-        let i' : joined ≡ length (map pack_entry js) = omega (arith, r.joins, length_each pack_entry js) in
+        let i' : joined ≡ length (map pack_entry js) = omega (arith, r.joins, length-map js pack_entry) in
         let o : subgraph ≡ padded 128 zero_entry (map pack_entry js) =
         e ∙ ap (λ (x : List BlockCacheEntry). reverse (take joined x) ++ drop joined x) r.laid
         ∙ ap₂ (λ (x y : List BlockCacheEntry). reverse x ++ y) (take_at es (replicate (128 - length es) zero_entry) joined l) (drop_at es (replicate (128 - length es) zero_entry) joined l)

@@ -4,11 +4,10 @@ use Rattle.std.specs.Array.{IsFromFnResult, IsFromFnResultFrom}
 use Rattle.std.specs.Fn.{Called}
 use denote.Param.Members.{Mut}
 use Rattle.std.proofs.Common.{◌≡◌, ℕ, zero, suc, ◌+◌, ◌<◌, ◌-◌, List, [], ◌∷◌, ◌++◌, length, get_or, replicate, sym, refl, ap, ◌∙◌, subst, arith}
-use Rattle.std.proofs.lemmas.List.{ext_get_or}
+use Rattle.std.proofs.lemmas.List.{ext_get_or, get_or_default, length-map}
 use Rattle.std.specs.Prelude.{None, Option, Some, map, option_map, slice_get}
 use Rattle.block_records.specs.rules.Lists.{padded}
-use Rattle.block_records.proofs.arrays.ArrayLaws.{get_d_any, getD_each}
-use Rattle.block_records.proofs.rules.ListLaws.{length_each}
+use lib.ListN.{get_or-map}
 
 module _ {F B : Type 0} (g : Mut F (ℕ × Unit {0}) B) (f : F) (t : List B)
     (says : (i : ℕ) (r : B) (q : F) → Called g f (i, tt) r q → (i < length t → (d : B) → r ≡ get_or t i d) × (q ≡ f)) where
@@ -37,12 +36,12 @@ module _ {F B : Type 0} (g : Mut F (ℕ × Unit {0}) B) (f : F) (t : List B)
 pub made_maps : {F A B : Type 0} (g : Mut F (ℕ × Unit {0}) B) (f : F) (v : A → B) (xs : List A)
     (says : (i : ℕ) (r : B) (q : F) → Called g f (i, tt) r q → ((y : A) × (y ≡ get_or xs i y) × (r ≡ v y)) × (q ≡ f))
     (ys : List B) (n : ℕ) → IsFromFnResult g f ys n → length xs ≡ n → ys ≡ map v xs
-made_maps {F} {A} {B} g f v xs says ys n h l = made_is g f (map v xs) made ys n h (length_each v xs ∙ l)
+made_maps {F} {A} {B} g f v xs says ys n h l = made_is g f (map v xs) made ys n h (length-map xs v ∙ l)
   where
     made : (i : ℕ) (r : B) (q : F) → Called g f (i, tt) r q → (i < length (map v xs) → (d : B) → r ≡ get_or (map v xs) i d) × (q ≡ f)
     made i r q k =
         let s = says i r q k in
-        (λ m d. s.0.2 ∙ ap v s.0.1 ∙ sym (getD_each v xs i s.0.0) ∙ get_d_any (map v xs) i (v s.0.0) d m, s.1)
+        (λ m d. s.0.2 ∙ ap v s.0.1 ∙ sym (get_or-map v xs i s.0.0) ∙ get_or_default (map v xs) i (v s.0.0) d m, s.1)
 
 -- what stands at a place of a list in places, none past its end
 module _ {A B : Type 0} (v : A → B) where
@@ -58,4 +57,4 @@ module _ {A B : Type 0} (v : A → B) where
 
   pub place_or_none : (n : ℕ) (xs : List A) (i : ℕ) (d : Option B) → i < n → option_map v (slice_get xs i) ≡ get_or (padded n None (map (λ (x : A). Some (v x)) xs)) i d
   unfolding padded
-  place_or_none n xs i d h = rw (length_each (λ (x : A). Some (v x)) xs) (some_at xs (n - length xs) i d (omega arith))
+  place_or_none n xs i d h = rw (length-map xs (λ (x : A). Some (v x))) (some_at xs (n - length xs) i d (omega arith))

@@ -1,16 +1,16 @@
 -- The place that a lookup gives, on a sound cache: where it finds a block, it is the one that the rules look up among those still cached.
 -- Assumes nothing.
 use Rattle.std.specs.Prelude.{Option, option_map, None, Some, map}
-use Rattle.std.proofs.Common.{◌≡◌, ℕ, ◌-◌, ◌<◌, ◌≤◌, true, ◌⊎◌, List, ◌++◌, length, get_or, replicate, sym, refl, ap, ◌∙◌, subst, ap₂, subst₂, inl, inr, arith, length-append, leb-true}
-use lib.ListN.{get_or-append, length-replicate}
+use Rattle.std.proofs.Common.{◌≡◌, ℕ, ◌-◌, ◌<◌, ◌≤◌, true, ◌⊎◌, List, ◌++◌, length, get_or, replicate, sym, refl, ap, ◌∙◌, subst, subst₂, inl, inr, arith, length-append, leb-true}
+use lib.ListN.{get_or-append, length-replicate, get_or-map}
 use Rattle.block_records.specs.declared.block_id.BlockId.{BlockId}
 use Rattle.block_records.specs.declared.block_id.ShardIdent.{ShardIdent}
 use Rattle.block_records.specs.declared.entry.BlockCacheEntry.{BlockCacheEntry}
 use Rattle.blocks_cache.specs.declared.cache.Cache.{Cache}
 use Rattle.blocks_cache.specs.declared.cache.ShardGroup.{ShardGroup}
+use Rattle.blocks_cache.specs.declared.lookup.BlockIndex.{BlockIndex}
 use Rattle.blocks_cache.specs.declared.lookup.GroupSeqnos.{GroupSeqnos}
-use Rattle.block_records.proofs.arrays.ArrayLaws.{all_get_d, get_d_any, getD_each}
-use Rattle.block_records.proofs.rules.ListLaws.{length_each}
+use Rattle.block_records.proofs.arrays.ArrayLaws.{all_get_d}
 use Rattle.std.specs.List.{position}
 use Rattle.block_records.specs.layout.Entry.{pack_entry, view_shard_entry}
 use Rattle.block_records.specs.layout.Zeros.{zero_entry}
@@ -20,13 +20,14 @@ use Rattle.block_records.specs.rules.Lists.{padded}
 use Rattle.blocks_cache.proofs.arrays.CachedSeqnoLaws.{Indexed, Numbered, cached_within, first_indexed, first_now, found_cached, listed_or_empty, lookup_in, no_shard_cached, none_cached, none_in_empty, now_shards, numbered_in}
 use Rattle.blocks_cache.proofs.arrays.FirstPlaceLaws.{FirstAt, Placed, first_at, none_passes, placed}
 use Rattle.blocks_cache.proofs.layout.CacheLaws.{pack_sound, sound_cache_packed, view_pack}
-use Rattle.blocks_cache.specs.arrays.Lookup.{block_place, cached_at, cached_block, no_seqnos, place_in, place_of, placed_block, shard_seqnos}
+use Rattle.blocks_cache.specs.arrays.Lookup.{block_place, cached_at, cached_block, index_of, no_seqnos, place_in, place_of, placed_block, shard_seqnos}
 use Rattle.blocks_cache.specs.arrays.Shards.{ident_at, shard_ident}
 use Rattle.blocks_cache.specs.layout.Cache.{pack, pack_shard, sound_cache, view, view_shard, zero_shard_group}
 use Rattle.cache_rules.proofs.ShardLaws.{ShardsOk}
-use Rattle.cache_rules.proofs.SoundLaws.{parts, shard_parts}
+use Rattle.cache_rules.proofs.SoundLaws.{parts}
 use Rattle.cache_rules.specs.Model.{Model, ShardModel, block_under}
 use Rattle.cache_rules.specs.Refusals.{sound_model, sound_shard_model}
+use Rattle.std.proofs.lemmas.List.{get_or_default, length-map}
 
 module _ (c : Cache) (ok : sound_cache c ≡ true) where
   abbrev gs : List ShardModel
@@ -57,8 +58,8 @@ module _ (c : Cache) (ok : sound_cache c ≡ true) where
 
   pub eight_groups : length (map shard_seqnos c.shards.items) ≡ 8
   eight_groups =
-      length_each shard_seqnos c.shards.items ∙ ap length held_is
-      ∙ omega (arith, length-append (map pack_shard gs) (replicate spare zero_shard_group), length_each pack_shard gs, few_groups, length-replicate spare zero_shard_group)
+      length-map c.shards.items shard_seqnos ∙ ap length held_is
+      ∙ omega (arith, length-append (map pack_shard gs) (replicate spare zero_shard_group), length-map gs pack_shard, few_groups, length-replicate spare zero_shard_group)
 
   -- ===== a place =====
 
@@ -127,20 +128,17 @@ module _ (c : Cache) (ok : sound_cache c ≡ true) where
         pub at_group : k < 8
         at_group = omega (arith, group_listed, few_groups)
 
-        pub at_entry : j < 16
-        at_entry = omega (arith, entry_listed, leb-true (length es) 16 (shard_parts g found_group_sound).count)
-
         -- the block that the code reads; y and x are what the arrays would give past their ends
         pub block_read : (y : ShardGroup) (x : BlockCacheEntry) → get_or (get_or c.shards.items k y).group.entries.items j x ≡ pack_entry block_at
         unfolding padded
         block_read y x =
-            let a : k < length (map pack_shard gs) = omega (arith, length_each pack_shard gs, group_listed) in
+            let a : k < length (map pack_shard gs) = omega (arith, length-map gs pack_shard, group_listed) in
             let p : get_or c.shards.items k y ≡ pack_shard g =
             ap (λ (l : List ShardGroup). get_or l k y) held_is ∙ get_or-append (map pack_shard gs) (replicate spare zero_shard_group) y k a
-            ∙ get_d_any (map pack_shard gs) k y (pack_shard (view_shard zero_shard_group)) a ∙ getD_each pack_shard gs k (view_shard zero_shard_group) in
-            let n : j < length (map pack_entry es) = omega (arith, length_each pack_entry es, entry_listed) in
+            ∙ get_or_default (map pack_shard gs) k y (pack_shard (view_shard zero_shard_group)) a ∙ get_or-map pack_shard gs k (view_shard zero_shard_group) in
+            let n : j < length (map pack_entry es) = omega (arith, length-map es pack_entry, entry_listed) in
             ap (λ (z : ShardGroup). get_or z.group.entries.items j x) p ∙ get_or-append (map pack_entry es) (replicate (16 - length (map pack_entry es)) zero_entry) x j n
-            ∙ get_d_any (map pack_entry es) j x (pack_entry (view_shard_entry zero_entry)) n ∙ getD_each pack_entry es j (view_shard_entry zero_entry)
+            ∙ get_or_default (map pack_entry es) j x (pack_entry (view_shard_entry zero_entry)) n ∙ get_or-map pack_entry es j (view_shard_entry zero_entry)
 
     absent_of : (o : Option ℕ) → found_here ≡ o → place_of id seqnos o ≡ None → block_under (now_shards seqnos gs) (key id) ≡ None
     absent_of (Some k) f e = absent_in k f (position (cached_at id.seqno) (get_or seqnos k no_seqnos).entries) refl e
@@ -152,32 +150,32 @@ module _ (c : Cache) (ok : sound_cache c ≡ true) where
 
   -- ===== the block of an id =====
 
-  module _ (i : BlockId) (idents : List ShardIdent) (seqnos : List GroupSeqnos) (of_shards : idents ≡ map shard_ident c.shards.items) (of_groups : seqnos ≡ map shard_seqnos c.shards.items) where
+  module _ (i : BlockId) (index : BlockIndex) (gathered : index ≡ index_of c.shards) where
+    abbrev idents : List ShardIdent
+    idents = index.idents
+
+    abbrev seqnos : List GroupSeqnos
+    seqnos = index.seqnos
+
     index_is : Indexed idents seqnos gs
-    index_is = subst₂ (λ (x : List ShardIdent) (y : List GroupSeqnos). Indexed x y gs) (sym of_shards) (sym of_groups) first_index
+    index_is = subst (λ (x : BlockIndex). Indexed x.idents x.seqnos gs) (sym gathered) first_index
 
     now_is : now_shards seqnos gs ≡ gs
-    now_is = ap (λ (x : List GroupSeqnos). now_shards x gs) of_groups ∙ all_cached
+    now_is = ap (λ (x : BlockIndex). now_shards x.seqnos gs) gathered ∙ all_cached
 
     rules_say : (o : Option Entry) → block_under (now_shards seqnos gs) (key i) ≡ o → block_under gs (key i) ≡ o
     rules_say o e = ap (λ (x : List ShardModel). block_under x (key i)) (sym now_is) ∙ e
 
     cached_is : placed_block (block_place i idents seqnos) c.shards.items ≡ cached_block i c
     unfolding cached_block
-    cached_is = ap₂ (λ (x : List ShardIdent) (y : List GroupSeqnos). placed_block (block_place i x y) c.shards.items) of_shards of_groups
+    cached_is = ap (λ (x : BlockIndex). placed_block (block_place i x.idents x.seqnos) c.shards.items) gathered
 
-    pub not_cached : block_place i idents seqnos ≡ None → cached_block i c ≡ None
+    pub not_cached : block_place i index.idents index.seqnos ≡ None → cached_block i c ≡ None
     not_cached e = sym cached_is ∙ ap (λ (p : Option (ℕ × ℕ)). placed_block p c.shards.items) e
 
-    module _ (k j : ℕ) (e : block_place i idents seqnos ≡ Some (k, j)) where
+    module _ (k j : ℕ) (e : block_place i index.idents index.seqnos ≡ Some (k, j)) where
       p : Placed i idents seqnos k j
       p = placed i idents seqnos k j e
-
-      pub cached_group_within : k < 8
-      cached_group_within = at_group i idents seqnos index_is k p.group j p.entry
-
-      pub cached_entry_within : j < 16
-      cached_entry_within = at_entry i idents seqnos index_is k p.group j p.entry
 
       -- y and x are what the arrays would give past their ends
       pub cached_at_place : (y : ShardGroup) (x : BlockCacheEntry) → cached_block i c ≡ Some (get_or (get_or c.shards.items k y).group.entries.items j x)
@@ -196,7 +194,9 @@ module _ (c : Cache) (ok : sound_cache c ≡ true) where
 
   cached_block_is : (i : BlockId) → cached_block i c ≡ option_map pack_entry (block_under (view c).shards (key i))
   unfolding cached_block
-  cached_block_is i = looked_up_by i (map shard_ident c.shards.items) (map shard_seqnos c.shards.items) refl refl (block_place i (map shard_ident c.shards.items) (map shard_seqnos c.shards.items)) refl
+  cached_block_is i = looked_up_by i (index_of c.shards) refl (block_place i (map shard_ident c.shards.items) (map shard_seqnos c.shards.items)) refl
+
+pub ruleset cached_blocks = (not_cached, cached_at_place)
 
 -- on a packed cache the block of an id is the one that the rules look up, packed
 pub cached_block_packed : (m : Model) → sound_model m ≡ true → (i : BlockId) → cached_block i (pack m) ≡ option_map pack_entry (block_under m.shards (key i))

@@ -3,7 +3,7 @@
 use Rattle.block_records.proofs.arrays.ListedLaws.{any_finds}
 use Rattle.std.specs.List.{find, list_any}
 use Rattle.std.specs.Prelude.{is_some}
-use Rattle.std.proofs.Common.{◌≡◌, ℕ, ◌≤◌, ◌||◌, ltb, List, length, refl, ap, ◌∙◌, le-leb, Bool}
+use Rattle.std.proofs.Common.{◌≡◌, ℕ, ◌≤◌, ◌||◌, ltb, List, length, ap, ◌∙◌, le-leb, Bool}
 use Rattle.block_records.specs.declared.block_id.BlockId.{BlockId}
 use Rattle.blocks_cache.specs.declared.master_data.MasterData.{MasterData}
 use Rattle.block_records.proofs.layout.EntryLaws.{take_padded}
@@ -11,7 +11,7 @@ use Rattle.block_records.specs.layout.Zeros.{zero_id}
 use Rattle.block_records.specs.rules.Lists.{last, put}
 use Rattle.blocks_cache.specs.arrays.MasterData.{drop_ids_below, drop_ids_from, has_place_for_id, highest_id, id_at, listed_ids, put_id}
 use Rattle.blocks_cache.specs.layout.Cache.{pack}
-use Rattle.cache_rules.specs.Model.{Model, id_before, ids_below, ids_from, moved_start, with_ids_and_range}
+use Rattle.cache_rules.specs.Model.{Model, id_before, ids_below, ids_from, with_ids_and_range}
 
 -- ===== on packed data =====
 
@@ -44,7 +44,3 @@ pub has_place_for_id_packed : (n : ℕ) (m : Model) → has_place_for_id n (pack
 has_place_for_id_packed n m =
     ap (λ (ids : List BlockId). list_any (id_at n) ids || ltb (length ids) 32) (listed_packed m)
     ∙ ap (λ (b : Bool). b || ltb (length m.ids) 32) (any_finds (id_at n) m.ids)
-
--- moving the range
-pub move_start_packed : (s : ℕ) (m : Model) → (moved_start s ((pack m).«data».range)) ≡ (pack (with_ids_and_range m.ids (moved_start s m.range) m)).«data».range
-move_start_packed s m = refl

@@ -6,10 +6,9 @@ use Rattle.blocks_group.specs.arrays.Group.{found_at}
 use Rattle.std.proofs.Common.{◌≡◌, ℕ, ◌<◌, ◌≤◌, true, List, length, sym, refl, ap, ap₂, ◌∙◌, arith, le-leb}
 use Rattle.block_records.specs.declared.block_id.ShardIdent.{ShardIdent}
 use Rattle.blocks_cache.specs.declared.cache.ShardGroup.{ShardGroup}
-use Rattle.block_records.proofs.arrays.ArrayLaws.{each_put, getD_each, get_d_any}
+use Rattle.block_records.proofs.arrays.ArrayLaws.{each_put}
 use Rattle.block_records.proofs.arrays.PlaceLaws.{at_within, element_at, place_each, place_finds}
 use Rattle.block_records.proofs.rules.BlockIdLaws.{shard_eq_is, shard_gt_is, shard_lt_is, shard_order, shard_ordering}
-use Rattle.block_records.proofs.rules.ListLaws.{length_each}
 use Rattle.block_records.proofs.rules.OrderLaws.{differs, less_not_same}
 use Rattle.block_records.proofs.rules.Tests.{clash}
 use Rattle.block_records.specs.arrays.Place.{place}
@@ -18,8 +17,10 @@ use Rattle.block_records.specs.rules.BlockId.{less_shard}
 use Rattle.block_records.specs.rules.Lists.{put, rising}
 use Rattle.blocks_cache.specs.arrays.Shards.{listed_shard, put_shard, shard_at, shard_below, shard_place}
 use Rattle.blocks_cache.specs.layout.Cache.{Shards, pack, pack_shard, shard_group_before, view_shard, zero_shard_group}
-use Rattle.blocks_group.proofs.layout.GroupLaws.{listed_packed_each}
 use Rattle.cache_rules.specs.Model.{Model, ShardModel, find_shard, is_shard, shard_before}
+use lib.ListN.{get_or-map}
+use Rattle.std.proofs.lemmas.List.{get_or_default, length-map}
+use Rattle.block_records.proofs.layout.EntryLaws.{take_padded}
 
 -- ===== a search that compares the shards =====
 
@@ -33,7 +34,7 @@ shard_compares g = record { below = λ x. sym (shard_lt_is x.shard g.shard); abo
 -- ===== on packed groups =====
 
 pub listed_packed : (m : Model) → listed (pack m).shards ≡ map pack_shard m.shards
-listed_packed m = listed_packed_each 8 zero_shard_group pack_shard m.shards
+listed_packed m = take_padded 8 zero_shard_group (map pack_shard m.shards)
 
 abbrev packed_shards : List ShardModel → Shards
 packed_shards gs = packed 8 zero_shard_group (map pack_shard gs)
@@ -44,7 +45,7 @@ pub put_shard_packed : (g : ShardModel) (m : Model) → length (put shard_before
 put_shard_packed g m h =
     let e : put shard_group_before (pack_shard g) (map pack_shard m.shards) ≡ map pack_shard (put shard_before g m.shards) =
     each_put pack_shard shard_before shard_group_before (λ x y. refl) g m.shards in
-    let n : length (map pack_shard (put shard_before g m.shards)) ≡ length (put shard_before g m.shards) = length_each pack_shard (put shard_before g m.shards) in
+    let n : length (map pack_shard (put shard_before g m.shards)) ≡ length (put shard_before g m.shards) = length-map (put shard_before g m.shards) pack_shard in
     rw (listed_packed m, e, le-leb (length (map pack_shard (put shard_before g m.shards))) 8 (omega arith))
 
 -- where a shard's group stands is where the model has it
@@ -59,10 +60,6 @@ find_shard_packed s m r d =
     place_finds (λ (g : ShardModel). less_shard g.shard s) (is_shard s) shard_before (λ x t. less_not_same shard_order x.shard s t)
     (λ x y t u l. rw (differs shard_order y.shard s (λ e. clash (shard_order.trans s x.shard y.shard (shard_order.tri x.shard s u t) l) (rw e (shard_order.irrefl s))))) d m.shards r
     ∙ ap (λ (f : Result ℕ ℕ). element_at (λ (g : ShardModel). less_shard g.shard s) (is_shard s) d f m.shards) (sym (shard_place_packed s m))
-
--- the place of a group lies among those that are listed
-pub shard_place_listed : (s : ShardIdent) (gs : List ShardGroup) (k : ℕ) → shard_place s gs ≡ Ok k → k < length gs
-shard_place_listed s gs k e = at_within (shard_below s) (shard_at s) gs k e
 
 -- the group of a shard is the model's
 pub listed_shard_packed : (s : ShardIdent) (m : Model) → rising shard_before m.shards ≡ true → listed_shard s (pack m).shards ≡ option_map pack_shard (find_shard s m.shards)
@@ -79,4 +76,4 @@ listed_shard_packed s m r =
     by (Err k) e = refl
     by (Ok k) e =
         let l : k < length m.shards = at_within (λ (g : ShardModel). less_shard g.shard s) (is_shard s) m.shards k e in
-        ap Some (get_d_any (map pack_shard m.shards) k zero_shard_group (pack_shard (view_shard zero_shard_group)) (omega (arith, l, length_each pack_shard m.shards)) ∙ getD_each pack_shard m.shards k (view_shard zero_shard_group))
+        ap Some (get_or_default (map pack_shard m.shards) k zero_shard_group (pack_shard (view_shard zero_shard_group)) (omega (arith, l, length-map m.shards pack_shard)) ∙ get_or-map pack_shard m.shards k (view_shard zero_shard_group))

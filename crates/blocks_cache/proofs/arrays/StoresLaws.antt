@@ -1,23 +1,18 @@
--- What both stores of the whole cache share: results that leave nothing free, the group of a shard as it is held, and the call's questions in two parts.
+-- What both stores of the whole cache share: what is stored in a packed cache, and the group of a shard as it is held.
 -- Assumes nothing.
 use Rattle.block_records.specs.declared.range.AppliedRange.{AppliedRange}
-use Rattle.block_records.specs.declared.questions.Refusal.TheVariants.{NoRoom, Unsound}
-use Rattle.std.specs.Prelude.{Option, option_map, None, Some, map, cond, is_some, Err, Ok, Result, ⊤}
-use Rattle.std.proofs.Common.{◌≡◌, ℕ, ◌≤◌, Bool, true, false, ◌||◌, ltb, List, [], ◌++◌, length, sym, refl, ap, ◌∙◌, arith, leb-true}
+use Rattle.block_records.specs.declared.questions.Refusal.{Refusal}
+use Rattle.block_records.specs.declared.questions.Refusal.TheVariants.{NoRoom}
+use Rattle.std.specs.Prelude.{Option, Err, Ok, Result, option_map, None, Some, map, cond, is_some}
+use Rattle.std.proofs.Common.{◌≡◌, ℕ, ◌≤◌, Bool, true, false, ◌||◌, ltb, List, [], length, sym, refl, ap, ◌∙◌, arith, leb-true}
 use Rattle.block_records.specs.declared.block_id.BlockId.{BlockId}
 use Rattle.block_records.specs.declared.block_id.ShardIdent.{ShardIdent}
-use Rattle.block_records.specs.declared.questions.Refusal.{Refusal}
-use Rattle.blocks_group.specs.declared.store.StoreAnswer.{StoreAnswer}
-use Rattle.blocks_group.specs.declared.store.StoreAnswer.TheVariants.{Stored as stored_answer, Synced as synced_answer}
-use Rattle.blocks_cache.specs.declared.cache.Cache.{Cache}
+use Rattle.blocks_group.specs.declared.store.StoreAnswer.TheVariants.{Stored as stored_answer}
 use Rattle.blocks_cache.specs.declared.cache.ShardGroup.{ShardGroup}
-use Rattle.blocks_cache.specs.declared.stores.BlockCacheStoreResult.{BlockCacheStoreResult}
 use Rattle.block_records.proofs.arrays.ArrayLaws.{each_put}
-use Rattle.block_records.proofs.rules.ListLaws.{length_each}
 use Rattle.block_records.proofs.rules.Tests.{clash, on}
 use Rattle.block_records.specs.rules.BlockId.{id_shard, is_masterchain, less_shard}
 use Rattle.block_records.specs.rules.Lists.{last, put, rising}
-use Rattle.block_records.specs.rules.Questions.{Question, first_no, passed}
 use Rattle.blocks_group.proofs.arrays.StoreLaws.{model_room}
 use Rattle.blocks_group.proofs.rules.GroupLaws.{GroupParts, group_parts}
 use Rattle.blocks_group.specs.layout.Block.{master_parts, shard_parts}
@@ -26,39 +21,20 @@ use Rattle.blocks_group.specs.rules.Group.{GroupModel, entry_before}
 use Rattle.blocks_group.specs.rules.Soundness.{of_shard}
 use Rattle.blocks_cache.proofs.arrays.MasterDataLaws.{highest_id_packed}
 use Rattle.blocks_cache.proofs.arrays.ShardsLaws.{listed_packed, listed_shard_packed, put_shard_packed}
-use Rattle.blocks_cache.proofs.layout.CallLaws.{unsound_answers_1, err_of}
-use Rattle.blocks_cache.proofs.layout.CallOnLaws.{first_part_refuses, second_part_decides}
 use Rattle.blocks_cache.specs.arrays.MasterData.{highest_id}
-use Rattle.blocks_cache.specs.arrays.Stores.{held_in, nothing_stored, shard_held, store_outcome, stored_in, where_held, with_shard_group, zeroed_store}
-use Rattle.blocks_cache.specs.layout.Cache.{HeldOutcome, Shards, answered_on, call_on, pack, pack_outcome, pack_shard, sound_cache, view}
+use Rattle.blocks_cache.specs.arrays.Stores.{held_in, shard_held, answered_in, unless_refused, with_shard_group, StoreStep, refused_in, store_says}
+use Rattle.blocks_cache.specs.layout.Cache.{HeldOutcome, Shards, pack, pack_outcome, pack_shard, unlent_outcome}
 use Rattle.cache_rules.proofs.ShardLaws.{group_of_sound, shards_set}
 use Rattle.cache_rules.proofs.SoundLaws.{parts}
-use Rattle.cache_rules.specs.Calls.{Request, stored, unlent}
+use Rattle.cache_rules.specs.Calls.{stored}
 use Rattle.cache_rules.specs.Effects.{outcome_of, plain}
 use Rattle.cache_rules.specs.Model.{Model, ShardModel, entry_for, find_shard, group_for, group_in, group_of, set_group, shard_before, with_ids_and_range, with_shards}
-use Rattle.cache_rules.specs.Refusals.{further, has_room, sound_model}
+use Rattle.cache_rules.specs.Refusals.{has_room, sound_model}
+use Rattle.std.proofs.lemmas.List.{length-map}
 
--- ===== nothing is left free =====
-
-abbrev pub Zeroed : BlockCacheStoreResult → Type 0
-Zeroed r = r ≡ zeroed_store r
-
-pub nothing_zeroed : (a : Result StoreAnswer Refusal) (h : Cache) → Zeroed (nothing_stored a h)
-nothing_zeroed (Ok (stored_answer both mismatch)) h = refl
-nothing_zeroed (Ok synced_answer) h = refl
-nothing_zeroed (Err n) h = refl
-
-pub stored_zeroed : (both mismatch : Bool) (h : Cache) → Zeroed (stored_in (Ok (stored_answer both mismatch)) h)
-stored_zeroed both mismatch h = refl
-
-pub pick_zeroed : (b : Bool) (x y : BlockCacheStoreResult) → Zeroed x → Zeroed y → Zeroed (cond b x y)
-pick_zeroed true x y p q = p
-pick_zeroed false x y p q = q
-
--- what is made of the group of a shard
-pub held_zeroed : (o : Option ShardBlocks) (made : ShardBlocks → BlockCacheStoreResult) (h : Cache) → ((g : ShardBlocks) → Zeroed (made g)) → Zeroed (where_held o made h)
-held_zeroed None made h z = refl
-held_zeroed (Some g) made h z = z g
+-- what a store answers and leaves; no slice is lent with it
+abbrev pub store_outcome : StoreStep → HeldOutcome
+store_outcome s = unlent_outcome s.cache (store_says s.answer)
 
 -- ===== what is stored in a packed cache =====
 
@@ -66,10 +42,10 @@ held_zeroed (Some g) made h z = z g
 abbrev pub store_leaves : Bool → Bool → Model → HeldOutcome
 store_leaves both mismatch m = pack_outcome (outcome_of (plain (stored both mismatch (last m.ids) m.range) m) [])
 
-pub stored_packed : (both mismatch : Bool) (m : Model) → store_outcome (stored_in (Ok (stored_answer both mismatch)) (pack m)) ≡ store_leaves both mismatch m
+pub stored_packed : (both mismatch : Bool) (m : Model) → store_outcome (answered_in (stored_answer both mismatch) (pack m)) ≡ store_leaves both mismatch m
 stored_packed both mismatch m =
     let i : (highest_id (pack m).«data») ≡ last m.ids = highest_id_packed m in
-    λ k. record { cache = pack m; answer = stored both mismatch (i k) m.range; slice = [] }
+    λ k. unlent_outcome (pack m) (stored both mismatch (i k) m.range)
 
 -- ===== the group of a shard in a packed cache =====
 
@@ -84,27 +60,27 @@ module _ (s : ShardIdent) (m : Model) where
   shard_room = is_some (find_shard s m.shards) || ltb (length m.shards) 8
 
   held_by : (o : Option ShardModel) →
-      held_in (option_map pack_shard o) (pack m).shards ≡ cond (is_some o || ltb (length m.shards) 8) (Some (pack_group shard_parts (group_in o))) None
+      held_in (option_map pack_shard o) (pack m).shards ≡ cond (is_some o || ltb (length m.shards) 8) (Ok (pack_group shard_parts (group_in o))) (Err NoRoom)
   unfolding no_blocks
   held_by None =
-      ap (λ (gs : List ShardGroup). cond (ltb (length gs) 8) (Some (no_blocks shard_parts)) None) (listed_packed m)
-      ∙ ap (λ (n : ℕ). cond (ltb n 8) (Some (no_blocks shard_parts)) None) (length_each pack_shard m.shards)
+      ap (λ (gs : List ShardGroup). cond (ltb (length gs) 8) (Ok (no_blocks shard_parts)) (Err NoRoom)) (listed_packed m)
+      ∙ ap (λ (n : ℕ). cond (ltb n 8) (Ok (no_blocks shard_parts)) (Err NoRoom)) (length-map m.shards pack_shard)
   held_by (Some g) = refl
 
   -- the group is the model's; there is room where question 8 has it
-  pub held_packed : rising shard_before m.shards ≡ true → shard_held s (pack m).shards ≡ cond shard_room (Some (pack_group shard_parts (group_of s m.shards))) None
+  pub held_packed : rising shard_before m.shards ≡ true → shard_held s (pack m).shards ≡ cond shard_room (Ok (pack_group shard_parts (group_of s m.shards))) (Err NoRoom)
   unfolding shard_held
   held_packed r = ap (λ (o : Option ShardGroup). held_in o (pack m).shards) (listed_shard_packed s m r) ∙ held_by (find_shard s m.shards)
 
   -- what is made of the group of a shard block, by whether there is room for it
-  pub where_held_packed : rising shard_before m.shards ≡ true → (made : ShardBlocks → BlockCacheStoreResult) (left : HeldOutcome) → is_masterchain s ≡ false →
+  pub where_held_packed : rising shard_before m.shards ≡ true → (made : ShardBlocks → StoreStep) (left : HeldOutcome) → is_masterchain s ≡ false →
       (shard_room ≡ true → store_outcome (made (pack_group shard_parts (group_for s m))) ≡ left) →
-      (shard_room ≡ false → store_outcome (nothing_stored (Err NoRoom) (pack m)) ≡ left) →
-      store_outcome (where_held (shard_held s (pack m).shards) made (pack m)) ≡ left
+      (shard_room ≡ false → store_outcome (refused_in NoRoom (pack m)) ≡ left) →
+      store_outcome (unless_refused (shard_held s (pack m).shards) made (pack m)) ≡ left
   where_held_packed r made left side there full =
       let e : group_of s m.shards ≡ group_for s m = rw side in
-      let by = λ (b : Bool). store_outcome (where_held (cond b (Some (pack_group shard_parts (group_of s m.shards))) None) made (pack m)) in
-      ap (λ (o : Option ShardBlocks). store_outcome (where_held o made (pack m))) (held_packed r)
+      let by = λ (b : Bool). store_outcome (unless_refused (cond b (Ok (pack_group shard_parts (group_of s m.shards))) (Err NoRoom)) made (pack m)) in
+      ap (λ (o : Result ShardBlocks Refusal). store_outcome (unless_refused o made (pack m))) (held_packed r)
       ∙ on shard_room
       (λ t. ap by t ∙ ap (λ (g : GroupModel). store_outcome (made (pack_group shard_parts g))) e ∙ there t)
       (λ t. ap by t ∙ full t)
@@ -123,7 +99,7 @@ module _ (s : ShardIdent) (m : Model) where
     -- how many shard groups there are does not depend on the group that is put
     set_length_by : (g : GroupModel) → length (set_group s g m.shards) ≡ length (put less_shard s (map (λ (x : ShardModel). x.shard) m.shards))
     set_length_by g =
-        sym (length_each (λ (x : ShardModel). x.shard) (set_group s g m.shards))
+        sym (length-map (set_group s g m.shards) (λ (x : ShardModel). x.shard))
         ∙ ap length (sym (each_put (λ (x : ShardModel). x.shard) shard_before less_shard (λ x y. refl) (record { shard = s; group = g }) m.shards))
 
     set_few : (g : GroupModel) → is_masterchain s ≡ false → shard_room ≡ true → length (set_group s g m.shards) ≤ 8
@@ -149,26 +125,3 @@ module _ (s : ShardIdent) (m : Model) where
 pub has_room_is : (i : BlockId) (m : Model) → is_masterchain (id_shard i) || shard_room (id_shard i) m ≡ true →
     has_room i m ≡ is_some (entry_for i m) || model_room (group_for (id_shard i) m)
 has_room_is i m h = rw h (on (model_room (group_for (id_shard i) m)) (λ t. rw t) (λ t. rw t))
-
--- ===== a call's questions in two parts =====
-
-refusal_is : (o : Option Refusal) (r : Result ⊤ Refusal) → r ≡ passed o → o ≡ err_of r
-refusal_is None r e = sym (ap err_of e)
-refusal_is (Some n) r e = sym (ap err_of e)
-
--- what a store promises
-abbrev pub Promised : Cache → Request → BlockCacheStoreResult → Type 0
-Promised h q r = (store_outcome r ≡ call_on h (unlent q)) × (r ≡ zeroed_store r)
-
-module _ (h : Cache) (q : Request) where
-  pub promised_unsound : (r : BlockCacheStoreResult) → r ≡ nothing_stored (Err Unsound) h → sound_cache h ≡ false → Promised h q r
-  promised_unsound r e t = (ap store_outcome e ∙ sym (unsound_answers_1 h (unlent q) t), rw e)
-
-  module _ (ok : sound_cache h ≡ true) (own rest : List Question) (split : further (view h) 0 q ≡ own ++ rest) (f : Result ⊤ Refusal) (is_first : f ≡ passed (first_no own)) where
-    pub promised_refused : (r : BlockCacheStoreResult) (n : Refusal) → r ≡ nothing_stored (Err n) h → f ≡ Err n → Promised h q r
-    promised_refused r n e k =
-        (ap store_outcome e ∙ sym (first_part_refuses h (unlent q) ok own rest split n (refusal_is (first_no own) f is_first ∙ ap err_of k)), rw e)
-
-    pub promised_rest : (r : BlockCacheStoreResult) → store_outcome r ≡ answered_on (first_no rest) h (unlent q) → Zeroed r → f ≡ Ok tt → Promised h q r
-    promised_rest r e z k =
-        (e ∙ sym (second_part_decides h (unlent q) ok own rest split (refusal_is (first_no own) f is_first ∙ ap err_of k)), z)

@@ -20,17 +20,17 @@ use Rattle.block_records.specs.declared.entry.BlockCacheEntry.{BlockCacheEntry}
 use Rattle.block_records.specs.declared.entry.MasterBlock.{MasterBlock}
 use Rattle.block_records.specs.declared.top_block.TopBlock.{TopBlock}
 use Rattle.blocks_cache.specs.declared.cache.Cache.{Cache}
-use Rattle.blocks_cache.specs.declared.tail_ids.TailIds.{TailIds}
 use Rattle.blocks_cache.specs.declared.tail_ids.TailIdsRow.{TailIdsRow}
-use Rattle.block_records.proofs.arrays.ArrayLaws.{each_put, get_d_any, getD_each, padded_longer}
+use Rattle.blocks_cache.specs.declared.tail_ids.TailWalk.{TailWalk}
+use Rattle.block_records.proofs.arrays.ArrayLaws.{each_put, padded_longer}
 use Rattle.block_records.proofs.arrays.PlaceLaws.{at_within, element_at, place_each, place_finds, put_replaces}
 use Rattle.block_records.proofs.arrays.ScanLaws.{overwritten_padded, put_longer, replaced_length, set_replaces}
 use Rattle.block_records.proofs.layout.EntryLaws.{take_padded, view_pack_prev_ids, view_pack_tops}
 use Rattle.block_records.proofs.rules.BlockIdLaws.{shard_order}
 use Rattle.block_records.proofs.rules.Finds.{find_member}
-use Rattle.block_records.proofs.rules.ListLaws.{every_member, length_each}
+use Rattle.block_records.proofs.rules.ListLaws.{every_member}
 use Rattle.block_records.proofs.rules.OrderLaws.{differs, less_not_same}
-use Rattle.block_records.proofs.rules.Tests.{and_right, clash, on}
+use Rattle.block_records.proofs.rules.Tests.{clash, on}
 use Rattle.block_records.specs.arrays.Arrays.{overwritten, spliced}
 use Rattle.block_records.specs.arrays.Place.{place}
 use Rattle.block_records.specs.layout.Entry.{pack_entry, pack_master, pack_prev_ids, pack_tops}
@@ -38,16 +38,16 @@ use Rattle.block_records.specs.layout.Zeros.{zero_id, zero_prev_ids}
 use Rattle.block_records.specs.rules.BlockId.{id_shard, is_masterchain, key, less_shard, listed_prev_ids, listed_tops, same_shard}
 use Rattle.block_records.specs.rules.Entry.{Entry}
 use Rattle.block_records.specs.rules.Lists.{padded, put, rising}
-use Rattle.block_records.specs.rules.Questions.{Question, ask, entry_fits, first_no, key_fits}
+use Rattle.block_records.specs.rules.Questions.{Question, ask, entry_fits, first_no, key_fits, seqno_fits}
+use Rattle.blocks_cache.proofs.arrays.CheckLaws.{checked, checked_yes, next_refuses, passed_on, refused_by, sound_refuses}
 use Rattle.blocks_cache.proofs.arrays.LookupLaws.{cached_block_packed}
 use Rattle.blocks_cache.proofs.arrays.TailRowLaws.{passed, picked, row_level, row_once}
 use Rattle.blocks_cache.proofs.arrays.TailWalkLaws.{queue_passed}
 use Rattle.blocks_cache.proofs.layout.CacheLaws.{sound_cache_packed}
-use Rattle.blocks_cache.proofs.layout.CallLaws.{unsound_answers_1}
-use Rattle.blocks_cache.proofs.layout.CallOnLaws.{first_part_refuses, on_sound, second_part_decides}
+use Rattle.blocks_cache.proofs.layout.CallOnLaws.{on_sound, second_part_decides}
 use Rattle.blocks_cache.specs.arrays.Lookup.{cached_block}
-use Rattle.blocks_cache.specs.arrays.TailIds.{TailState, TailStep, block_tails, cached_row, found_step, fresh_ids, given_tails, hold_given, hold_row, listed_tails, missing_row, no_step, no_tails, pack_tail, pack_tails, put_row, read_tails, replaces_row, row_at, row_before, row_below, row_held_at, row_place, set_row, step_of, tail_outcome, tails_at, take_queued, take_tail_id, view_tail, view_tails, zero_tail, zeroed_tails}
-use Rattle.blocks_cache.specs.layout.Cache.{call_on, pack, pack_outcome, sound_cache, view}
+use Rattle.blocks_cache.specs.arrays.TailIds.{TailRows, TailStep, block_tails, cached_row, found_step, fresh_ids, hold_given, hold_row, listed_tails, missing_row, no_step, pack_tail, pack_tails, put_row, read_tails, replaces_row, row_at, row_before, row_below, row_held_at, row_place, set_row, step_of, tails_say, tails_at, take_queued, take_tail_id, view_tail, view_tails, with_rows, zero_tail, zeroed_tails}
+use Rattle.blocks_cache.specs.layout.Cache.{call_on, pack, pack_outcome, sound_cache, unlent_outcome, view}
 use Rattle.cache_rules.proofs.CountLaws.{shards_previous}
 use Rattle.cache_rules.proofs.SoundLaws.{parts}
 use Rattle.cache_rules.proofs.TailAnswer.{at_most_17, done_fits, ended, tails_same}
@@ -60,6 +60,9 @@ use Rattle.cache_rules.specs.Model.{Model, ShardModel, block_under}
 use Rattle.cache_rules.specs.Refusals.{further, sound_model}
 use Rattle.cache_rules.specs.TailIds.{first_row, found_gives, found_queues, gives, hold, hold_over, less_option, queues, tail_before, tails_of, top_ids}
 use Rattle.cache_rules.specs.TailIdsOnce.{OnceWalk, knows, once_begin, once_id, once_one, once_times, unknown_ids}
+use lib.ListN.{get_or-map}
+use Rattle.std.proofs.lemmas.List.{get_or_default, length-map}
+use Rattle.std.specs.Cmp.{second_so}
 
 -- ===== rows, packed =====
 
@@ -91,7 +94,7 @@ replaces_packed t h = by t.id h.id
 put_packed : (t : TailRow) (rows : List TailRow) → length (put tail_before t rows) ≤ 17 → put_row (pack_tail t) (pack_tails rows) ≡ pack_tails (put tail_before t rows)
 put_packed t rows h =
     let e : put row_before (pack_tail t) (map pack_tail rows) ≡ map pack_tail (put tail_before t rows) = each_put pack_tail tail_before row_before (λ x y. refl) t rows in
-    let n = length_each pack_tail (put tail_before t rows) in
+    let n = length-map (put tail_before t rows) pack_tail in
     rw (listed_packed rows, e, le-leb (length (map pack_tail (put tail_before t rows))) 17 (omega arith))
 
 abbrev row_under : ShardIdent → TailRow → Bool
@@ -113,16 +116,16 @@ find_packed s rows r d =
 
 row_packed_at : (rows : List TailRow) (k : ℕ) (d : TailRow) → k < length rows → get_or (pack_tails rows).items k zero_tail ≡ pack_tail (get_or rows k d)
 row_packed_at rows k d h =
-    let n = length_each pack_tail rows in
+    let n = length-map rows pack_tail in
     sym (get_or-take (length (map pack_tail rows)) (pack_tails rows).items k zero_tail (omega arith))
     ∙ ap (λ (xs : List TailIdsRow). get_or xs k zero_tail) (listed_packed rows)
-    ∙ get_d_any (map pack_tail rows) k zero_tail (pack_tail d) (omega arith)
-    ∙ getD_each pack_tail rows k d
+    ∙ get_or_default (map pack_tail rows) k zero_tail (pack_tail d) (omega arith)
+    ∙ get_or-map pack_tail rows k d
 
 -- a row in the place of another of its shard
 set_packed : (t : TailRow) (rows : List TailRow) (k : ℕ) → row_place t.shard (pack_tails rows) ≡ Ok k → k < length rows → set_row k (pack_tail t) (pack_tails rows) ≡ pack_tails (put tail_before t rows)
 set_packed t rows k e l =
-    let n = length_each pack_tail rows in
+    let n = length-map rows pack_tail in
     let xs = map pack_tail rows in
     let m : put row_before (pack_tail t) xs ≡ spliced k (k + 1) (pack_tail t) xs =
     put_replaces row_before (pack_tail t) (row_at t.shard) (row_once (pack_tail t)) (row_level (pack_tail t)) xs k (sym (ap (place (row_below t.shard) (row_at t.shard)) (listed_packed rows)) ∙ e) in
@@ -238,8 +241,8 @@ once_ended zero r gs m w e h = once_idle r gs m w e
 once_ended (suc k) zero gs m w e h = absurd (omega arith)
 once_ended (suc k) (suc r) gs m w e h = once_ended k r gs m (once_one gs m w) e (omega arith)
 
-abbrev packed_state : List TailRow → List BlockId → TailState
-packed_state rows known = record { tails = pack_tails rows; known = known }
+abbrev packed_state : List TailRow → List BlockId → TailWalk
+packed_state rows known = record { tails = pack_tails rows; queue = known }
 
 module _ (mo : Model) (ok : sound_model mo ≡ true) (m : ℕ) where
   abbrev gs : List ShardModel
@@ -255,7 +258,7 @@ module _ (mo : Model) (ok : sound_model mo ≡ true) (m : ℕ) where
       let a = s.holds rows r h in
       let b : known ++ fresh_ids known (listed_prev_ids (step_of (pack mo) m as_top i).queued) ≡ known ++ unknown_ids known (queues gs m as_top i) =
       ap (λ (ps : List BlockId). known ++ fresh_ids known ps) s.queues_them ∙ ap (λ (ps : List BlockId). known ++ ps) (fresh_unknown_ids known (queues gs m as_top i) k) in
-      λ j. record { tails = a j; known = b j }
+      λ j. record { tails = a j; queue = b j }
 
   -- all tops in turn
   tops_packed : (is : List BlockId) (rows : List TailRow) (known : List BlockId) → rising tail_before rows ≡ true →
@@ -272,7 +275,7 @@ module _ (mo : Model) (ok : sound_model mo ≡ true) (m : ℕ) where
       ∙ sym (append_assoc known (unknown_ids known (queues gs m true i)) (unknown_ids known₁ (flat_map (queues gs m true) is))) in
       let h₁ : length (fold hold rows₁ (flat_map (gives gs m true) is)) ≤ 17 = subst (λ (xs : List TailRow). length xs ≤ 17) a h in
       let k₁ : length (known₁ ++ unknown_ids known₁ (flat_map (queues gs m true) is)) ≤ 256 = subst (λ (xs : List BlockId). length xs ≤ 256) b k in
-      ap (λ (w : TailState). fold (take_tail_id (pack mo) m true) w is)
+      ap (λ (w : TailWalk). fold (take_tail_id (pack mo) m true) w is)
       (take_packed true i rows known r (omega (arith, fold_longer (flat_map (gives gs m true) is) rows₁, h₁))
       (omega (arith, length-append known₁ (unknown_ids known₁ (flat_map (queues gs m true) is)), k₁)))
       ∙ tops_packed is rows₁ known₁ (fold_rising (gives gs m true i) rows r) h₁ k₁
@@ -389,8 +392,8 @@ module _ (mo : Model) (ok : sound_model mo ≡ true) (M : Entry) (fit : entry_fi
     walk_packed : (take_queued k (pack mo) mm 0 (fold (take_tail_id (pack mo) mm true) (packed_state (first_row M ∷ []) []) (map top_id (listed_tops (pack_tops M.tops))))).tails
         ≡ pack_tails (tails_of mo.shards M)
     walk_packed =
-        ap (λ (w : TailState). (take_queued k (pack mo) mm 0 w).tails) tops_taken
-        ∙ ap (λ (w : TailState). w.tails) (queue_packed mo ok mm tops_rows rises k [] tops_queue end_few known_few)
+        ap (λ (w : TailWalk). (take_queued k (pack mo) mm 0 w).tails) tops_taken
+        ∙ ap (λ (w : TailWalk). w.tails) (queue_packed mo ok mm tops_rows rises k [] tops_queue end_few known_few)
         ∙ ap pack_tails end_rows
 
   pub block_tails_packed : block_tails (pack_master M) (pack mo) ≡ pack_tails (tails_of mo.shards M)
@@ -398,10 +401,6 @@ module _ (mo : Model) (ok : sound_model mo ≡ true) (M : Entry) (fit : entry_fi
   block_tails_packed = walk_packed 256 previous_few
 
 -- ===== the call =====
-
--- rows that are packed have zeros in what they do not use
-tails_zeroed : (ts : List TailRow) → given_tails (pack_tails ts) ≡ zeroed_tails (given_tails (pack_tails ts))
-tails_zeroed ts = ap (λ (xs : List TailRow). given_tails (pack_tails xs)) (sym (view_pack_tails ts))
 
 -- 12: the zerostate is not passed, or there is a master at the seqno
 abbrev cached_question : BlockIdShort → Model → List Question
@@ -416,12 +415,12 @@ module _ (k : BlockIdShort) (mo : Model) (ok : sound_model mo ≡ true) where
 
   master_fits : (M : Entry) → at_seqno k.seqno mo.masters.entries ≡ Some M → entry_fits M ≡ true
   master_fits M f =
-      and_right (is_masterchain (id_shard M.id)) (entry_fits M)
+      second_so (is_masterchain (id_shard M.id)) (entry_fits M)
       (every_member (fits_in is_masterchain) mo.masters.entries masters_ok.fit (find_member (has_seqno k.seqno) mo.masters.entries f))
 
   -- what is read, and that it has zeros in what its answer does not use
-  abbrev Read : TailIds → Type 0
-  Read r = (tail_outcome (pack mo) r ≡ pack_outcome (answered (first_no (cached_question k mo)) mo (unlent (read_tail_ids k)))) × (r ≡ zeroed_tails r)
+  abbrev Read : Result TailRows Refusal → Type 0
+  Read r = (unlent_outcome (pack mo) (tails_say r) ≡ pack_outcome (answered (first_no (cached_question k mo)) mo (unlent (read_tail_ids k)))) × (r ≡ zeroed_tails r)
 
   -- the rule's outcome, by what was asked and what its effect is
   ruled : (o : Option Refusal) → first_no (cached_question k mo) ≡ o → pack_outcome (answered o mo call) ≡ pack_outcome (answered (first_no (cached_question k mo)) mo call)
@@ -445,53 +444,44 @@ module _ (k : BlockIdShort) (mo : Model) (ok : sound_model mo ≡ true) where
   read_at h None f = (ruled (Some NoMaster) (rw (h, f)), refl)
   read_at h (Some M) f =
       let ts = tails_of mo.shards M in
-      let v : given_tails (block_tails (pack_master M) (pack mo)) ≡ given_tails (pack_tails ts) = ap given_tails (block_tails_packed mo ok M (master_fits M f)) in (
-        ap (tail_outcome (pack mo)) v ∙ ap (λ (xs : List TailRow). record { cache = pack mo; answer = tail_ids xs; slice = [] }) (view_pack_tails ts)
+      let v : ◌≡◌ {A = Result TailRows Refusal} (Ok (block_tails (pack_master M) (pack mo))) (Ok (pack_tails ts)) = ap Ok (block_tails_packed mo ok M (master_fits M f)) in
+      let s = view_pack_tails ts in (
+        ap (λ (r : Result TailRows Refusal). unlent_outcome (pack mo) (tails_say r)) v ∙ ap (λ (xs : List TailRow). unlent_outcome (pack mo) (tail_ids xs)) s
             ∙ effected (plain (tail_ids ts) mo) (effect_late h (Some M) f) (rw (h, f)),
-        v ∙ tails_zeroed ts ∙ ap zeroed_tails (sym v),
+        v ∙ ap (λ (xs : List TailRow). Ok (pack_tails xs)) (sym s) ∙ ap zeroed_tails (sym v),
       )
 
-  read_packed : Read (read_tails k.seqno (pack mo))
+  pub read_packed : Read (read_tails k.seqno (pack mo))
   unfolding read_tails
   read_packed =
       let at = tails_at (block_at master_parts k.seqno (pack_group master_parts mo.masters)) (pack mo) in
       on (leb k.seqno mo.zerostate)
-      (λ h. subst Read (picked (leb k.seqno mo.zerostate) (no_tails (Ok tt)) at h) (effected (plain (tail_ids []) mo) (effect_early h) (rw h), refl))
+      (λ h. subst Read (picked (leb k.seqno mo.zerostate) (Ok (with_rows [])) at h) (effected (plain (tail_ids []) mo) (effect_early h) (rw h), refl))
       (λ h.
       let e = block_at_packed master_parts master_laws k.seqno mo.masters masters_ok.order in
-      subst Read (ap (λ (o : Option MasterBlock). tails_at o (pack mo)) (sym e) ∙ passed (leb k.seqno mo.zerostate) (no_tails (Ok tt)) at h)
+      subst Read (ap (λ (o : Option MasterBlock). tails_at o (pack mo)) (sym e) ∙ passed (leb k.seqno mo.zerostate) (Ok (with_rows [])) at h)
       (read_at h (at_seqno k.seqno mo.masters.entries) refl))
 
-  pub read_tails_packed : tail_outcome (pack mo) (read_tails k.seqno (pack mo)) ≡ pack_outcome (answered (first_no (cached_question k mo)) mo (unlent (read_tail_ids k)))
-  read_tails_packed = read_packed.0
-
-  read_tails_zeroed : read_tails k.seqno (pack mo) ≡ zeroed_tails (read_tails k.seqno (pack mo))
-  read_tails_zeroed = read_packed.1
-
-module _ (c : Cache) (k : BlockIdShort) (r : TailIds) where
-  no_rows_zeroed : (n : Refusal) → r ≡ no_tails (Err n) → r ≡ zeroed_tails r
-  no_rows_zeroed n e = e ∙ ap zeroed_tails (sym e)
-
-  refused_said : (n : Refusal) → r ≡ no_tails (Err n) → tail_outcome c r ≡ record { cache = c; answer = refused n; slice = [] }
-  refused_said n e = ap (tail_outcome c) e
-
-  pub tails_unsound : sound_cache c ≡ false → r ≡ no_tails (Err Unsound) → (tail_outcome c r ≡ call_on c (unlent (read_tail_ids k))) × (r ≡ zeroed_tails r)
-  tails_unsound h e = (refused_said Unsound e ∙ sym (unsound_answers_1 c (unlent (read_tail_ids k)) h), no_rows_zeroed Unsound e)
+module _ (c : Cache) (k : BlockIdShort) where
+  pub tails_unsound : (x : Refusal) → Err x ≡ checked (sound_cache c) Unsound → unlent_outcome c (refused x) ≡ call_on c (unlent (read_tail_ids k))
+  tails_unsound = sound_refuses c (unlent (read_tail_ids k))
 
   module _ (ok : sound_cache c ≡ true) where
-    asked_key : further (view c) 0 (read_tail_ids k) ≡ (ask SeqnoLimit (key_fits k) ∷ []) ++ cached_question k (view c)
+    asked_key : further (view c) 0 (read_tail_ids k) ≡ ask SeqnoLimit (key_fits k) ∷ cached_question k (view c)
     unfolding further
     asked_key = refl
 
-    pub tails_refuses : key_fits k ≡ false → r ≡ no_tails (Err SeqnoLimit) → (tail_outcome c r ≡ call_on c (unlent (read_tail_ids k))) × (r ≡ zeroed_tails r)
-    tails_refuses h e =
-        (refused_said SeqnoLimit e ∙ sym (first_part_refuses c (unlent (read_tail_ids k)) ok (ask SeqnoLimit (key_fits k) ∷ []) (cached_question k (view c)) asked_key SeqnoLimit (rw h)), no_rows_zeroed SeqnoLimit e)
+    pub tails_refuses : (x : Refusal) → Err x ≡ checked (seqno_fits k.seqno) SeqnoLimit → unlent_outcome c (refused x) ≡ call_on c (unlent (read_tail_ids k))
+    tails_refuses = next_refuses c (unlent (read_tail_ids k)) (key_fits k) SeqnoLimit (cached_question k (view c)) ok asked_key
 
-    pub tails_are : key_fits k ≡ true → r ≡ read_tails k.seqno c → (tail_outcome c r ≡ call_on c (unlent (read_tail_ids k))) × (r ≡ zeroed_tails r)
-    tails_are h e =
-        let p = sound_cache_packed c ok in (
-          ap (tail_outcome c) e
-              ∙ on_sound (unlent (read_tail_ids k)) (λ (c : Cache). tail_outcome c (read_tails k.seqno c)) (cached_question k) (read_tails_packed k) c ok
-              ∙ sym (second_part_decides c (unlent (read_tail_ids k)) ok (ask SeqnoLimit (key_fits k) ∷ []) (cached_question k (view c)) asked_key (rw h)),
-          e ∙ subst (λ (x : Cache). read_tails k.seqno x ≡ zeroed_tails (read_tails k.seqno x)) (sym p.0) (read_tails_zeroed k (view c) p.1) ∙ ap zeroed_tails (sym e),
-        )
+    pub tails_are : seqno_fits k.seqno ≡ true → unlent_outcome c (tails_say (read_tails k.seqno c)) ≡ call_on c (unlent (read_tail_ids k))
+    tails_are h =
+        on_sound (unlent (read_tail_ids k)) (λ (x : Cache). unlent_outcome x (tails_say (read_tails k.seqno x))) (cached_question k) (λ m s. (read_packed k m s).0) c ok
+        ∙ sym (second_part_decides c (unlent (read_tail_ids k)) ok (ask SeqnoLimit (key_fits k) ∷ []) (cached_question k (view c)) asked_key (rw h))
+
+    pub tails_zeroed : read_tails k.seqno c ≡ zeroed_tails (read_tails k.seqno c)
+    tails_zeroed =
+        let p = sound_cache_packed c ok in
+        subst (λ (x : Cache). read_tails k.seqno x ≡ zeroed_tails (read_tails k.seqno x)) (sym p.0) (read_packed k (view c) p.1).1
+
+pub ruleset tail_calls = (passed_on, refused_by, checked_yes, tails_unsound, tails_refuses, tails_are, tails_zeroed)

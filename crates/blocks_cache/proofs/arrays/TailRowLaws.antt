@@ -8,32 +8,34 @@ use Rattle.std.specs.Prelude.{Option, None, Some, is_some, map, cond, Err, Ok, R
 use Rattle.std.proofs.Common.{◌≡◌, ℕ, zero, suc, ◌+◌, ◌<◌, ◌≤◌, Bool, true, false, not, ◌||◌, eqb, ltb, leb, List, [], ◌∷◌, ◌++◌, length, get_or, take, sym, refl, ap, ◌∙◌, ap₂, arith, length-take-le, subst, append_assoc, append-nil, length-append, ltb-false, eq-eqb, le-leb}
 use borrow.Author.Tests.{lt-leb}
 use lib.Seq.{take_all, take-nil}
-use Rattle.std.proofs.lemmas.List.{drop_all}
+use Rattle.std.proofs.lemmas.List.{drop_all, get_or_default}
 use lib.ListN.{drop, length-drop}
 use Rattle.block_records.proofs.arrays.LoopLaws.{drop_next}
 use Rattle.block_records.proofs.layout.EntryLaws.{view_pack_prev_ids}
 use Rattle.block_records.specs.declared.block_id.ShardIdent.{ShardIdent}
 use Rattle.block_records.proofs.arrays.ListedLaws.{any_finds}
-use Rattle.std.specs.List.{find, list_any}
+use Rattle.std.specs.List.{list_any}
 use Rattle.block_records.specs.arrays.Place.{place}
 use Rattle.block_records.specs.layout.Listed.{packed}
-use Rattle.block_records.proofs.rules.Tests.{absurd_eq, not_false, not_true}
+use Rattle.block_records.proofs.rules.Tests.{absurd_eq}
 use Rattle.block_records.specs.declared.block_id.BlockId.{BlockId}
 use Rattle.block_records.specs.layout.Listed.{PrevIds}
 use Rattle.blocks_cache.specs.declared.tail_ids.TailIdsRow.{TailIdsRow}
-use Rattle.block_records.proofs.arrays.ArrayLaws.{get_d_any, length_take_few, length_within, two_places, within_few}
-use Rattle.block_records.proofs.arrays.PlaceLaws.{at_within, inserts, put_inserts, vacant_within}
+use Rattle.block_records.proofs.arrays.ArrayLaws.{length_take_few, length_within, two_places, within_few}
+use Rattle.block_records.proofs.arrays.PlaceLaws.{at_within, put_inserts, vacant_within}
 use Rattle.block_records.proofs.arrays.ScanLaws.{any_snoc}
 use Rattle.block_records.proofs.rules.BlockIdLaws.{id_order, shard_order}
 use Rattle.block_records.proofs.rules.OrderLaws.{asym}
 use Rattle.block_records.proofs.rules.Tests.{clash, on, or_left, or_right}
-use Rattle.block_records.specs.arrays.Arrays.{Splices, spliced}
+use Rattle.block_records.specs.arrays.Arrays.{spliced}
 use Rattle.block_records.specs.layout.Entry.{pack_prev_ids}
 use Rattle.block_records.specs.layout.Zeros.{zero_id, zero_prev_ids}
 use Rattle.block_records.specs.rules.BlockId.{listed_prev_ids, same_id, same_shard}
 use Rattle.block_records.specs.rules.Lists.{put}
-use Rattle.blocks_cache.specs.arrays.TailIds.{TailRows, fingerprint, fresh_ids, has_number, hold_row, listed_tails, put_row, replaces_last, replaces_row, row_at, row_before, row_below, row_held_at, row_place, set_row, with_rows, zero_tail}
+use Rattle.blocks_cache.specs.arrays.TailIds.{TailRows, fresh_ids, has_number, hold_row, listed_tails, put_row, replaces_last, replaces_row, row_at, row_before, row_below, row_held_at, row_place, set_row, with_rows, zero_tail}
+use Rattle.blocks_cache.specs.arrays.TailQueue.{fingerprint}
 use Rattle.cache_rules.specs.TailIdsOnce.{knows, unknown_ids}
+use Rattle.std.proofs.lemmas.Bool.{not-true, not-false}
 
 -- the first where the test holds, else the second
 pub picked : {A : Type 0} (b : Bool) (x y : A) → b ≡ true → x ≡ cond b x y
@@ -70,13 +72,13 @@ module _ (t : TailRows) (r : TailIdsRow) (k : ℕ) where
     at_listed = at_within (row_below r.shard) (row_at r.shard) (listed_tails t) k e
 
     -- the place of a row that is listed
-    pub row_listed : length t.items ≡ 17 → k < 17
+    row_listed : length t.items ≡ 17 → k < 17
     row_listed long = omega (arith, at_listed, few long)
 
     -- d is any row
     module _ (long : length t.items ≡ 17) (d : TailIdsRow) where
       held_test : (b : Bool) → replaces_last r.id (get_or t.items k d).id ≡ b → replaces_row r (get_or t.items k zero_tail) ≡ b
-      held_test b h = ap (replaces_row r) (get_d_any t.items k zero_tail d (omega (arith, row_listed long, long))) ∙ h
+      held_test b h = ap (replaces_row r) (get_or_default t.items k zero_tail d (omega (arith, row_listed long, long))) ∙ h
 
       held_placed : row_held_at r (Ok k) t ≡ hold_row r t
       unfolding hold_row
@@ -91,9 +93,6 @@ module _ (t : TailRows) (r : TailIdsRow) (k : ℕ) where
   module _ (e : row_place r.shard t ≡ Err k) where
     vacant_listed : k ≤ length (listed_tails t)
     vacant_listed = vacant_within (row_below r.shard) (row_at r.shard) (listed_tails t) k e
-
-    pub row_inserts : length (listed_tails t) < 17 → Splices 17 k k (length (listed_tails t))
-    row_inserts h = inserts 17 r (listed_tails t) (omega arith) k vacant_listed h
 
     vacant_placed : put_row r t ≡ hold_row r t
     unfolding hold_row
@@ -117,6 +116,8 @@ module _ (t : TailRows) (r : TailIdsRow) (k : ℕ) where
         let l = longer in
         passed (leb (length (put row_before r (listed_tails t))) 17) (with_rows (put row_before r (listed_tails t))) t (lt-leb _ _ (omega arith)) ∙ vacant_placed
 
+pub ruleset held_rows = (hold_replaces, hold_keeps, hold_full)
+
 -- what the language's `<` answers of two ids that may be absent
 pub option_lt : (a b : Option BlockId) → is_some_and is_lt (option_partial_cmp id_cmp a b) ≡ less_option a b
 option_lt None None = refl
@@ -136,90 +137,74 @@ pub among_two : (known fresh : List BlockId) (i : BlockId) → list_any (same_id
 among_two [] fresh i = any_finds (same_id i) fresh
 among_two (x ∷ known) fresh i = on (same_id i x) (λ t. rw t) (λ t. rw t (among_two known fresh i))
 
--- a flag over those passed, and those that are left
-module _ {A : Type 0} (p : A → Bool) (xs : List A) (i : ℕ) where
-  pub any_left : (d : A) → i < length xs → (has : Bool) → (has || p (get_or xs i d)) || is_some (find p (drop (i + 1) xs)) ≡ has || is_some (find p (drop i xs))
-  any_left d h true = refl
-  any_left d h false = rw (drop_next xs i d h) (on (p (get_or xs i d)) (λ t. rw t) (λ t. rw t))
-
-  pub any_over : length xs ≤ i → (has : Bool) → has ≡ has || is_some (find p (drop i xs))
-  any_over h true = refl
-  any_over h false = rw (drop_all i xs h)
-
 -- what the loop over previous ids has found among them, before place i
 pub record FreshSoFar (known xs : List BlockId) (i : ℕ) (fresh : PrevIds) : Type 0 where
   pub is_packed : fresh ≡ pack_prev_ids (listed_prev_ids fresh)
   pub few : fresh.count ≤ i
+  pub number : fresh.count ≡ length (listed_prev_ids fresh)
+  pub short : length xs ≤ 2
   pub rest : unknown_ids known xs ≡ listed_prev_ids fresh ++ unknown_ids (known ++ listed_prev_ids fresh) (drop i xs)
 
 module _ (known xs : List BlockId) where
-  none_fresh : FreshSoFar known xs 0 (pack_prev_ids [])
-  none_fresh = record { is_packed = refl; few = omega arith; rest = rw append-nil }
-
-  pub fresh_start : (z : PrevIds) → z ≡ zero_prev_ids → FreshSoFar known xs 0 z
+  pub fresh_start : length xs ≤ 2 → (z : PrevIds) → z ≡ zero_prev_ids → FreshSoFar known xs 0 z
   unfolding zero_prev_ids
-  fresh_start z e = subst (FreshSoFar known xs 0) (sym e) none_fresh
+  fresh_start h z e = subst (FreshSoFar known xs 0) (sym e) (record { is_packed = refl; few = omega arith; number = refl; short = h; rest = rw append-nil })
 
-  module _ (i : ℕ) (fresh : PrevIds) (v : FreshSoFar known xs i fresh) where
-    abbrev so_far : List BlockId
-    so_far = listed_prev_ids fresh
+module _ {known xs : List BlockId} {i : ℕ} {fresh : PrevIds} (v : FreshSoFar known xs i fresh) where
+  abbrev so_far : List BlockId
+  so_far = listed_prev_ids fresh
 
-    fresh_number : fresh.count ≡ length so_far
-    fresh_number = ap (λ (p : PrevIds). p.count) v.is_packed
+  -- by the test of the id here; d is any id
+  module _ (h : i < length xs) (d : BlockId) (l : List BlockId) (el : l ≡ listed_prev_ids fresh) (test : Bool) (tells : test ≡ not (knows (known ++ l) (get_or xs i d))) where
+    abbrev here : BlockId
+    here = get_or xs i d
 
-    -- there is a place for it
-    pub fresh_place : i < length xs → length xs ≤ 2 → Splices 2 fresh.count fresh.count (length (listed_prev_ids fresh))
-    fresh_place h two = let n = fresh_number in let f = v.few in record { order = omega arith; within = omega arith; room = omega arith }
+    abbrev with_here : List BlockId
+    with_here = so_far ++ (here ∷ [])
 
-    -- by the test of the id here; d is any id
-    module _ (h : i < length xs) (d : BlockId) (l : List BlockId) (el : l ≡ listed_prev_ids fresh) (test : Bool) (tells : test ≡ not (knows (known ++ l) (get_or xs i d))) where
-      abbrev here : BlockId
-      here = get_or xs i d
+    tells_so_far : test ≡ not (knows (known ++ so_far) here)
+    tells_so_far = tells ∙ ap (λ (ys : List BlockId). not (knows (known ++ ys) here)) el
 
-      abbrev with_here : List BlockId
-      with_here = so_far ++ (here ∷ [])
+    pub fresh_passed : test ≡ false → FreshSoFar known xs (i + 1) fresh
+    fresh_passed e =
+        let t = not-false (knows (known ++ so_far) here) (sym tells_so_far ∙ e) in
+        let f = v.few in
+        let r : unknown_ids (known ++ so_far) (drop i xs) ≡ unknown_ids (known ++ so_far) (drop (i + 1) xs) = rw (drop_next xs i d h, t) in
+        record { is_packed = v.is_packed; few = omega arith; number = v.number; short = v.short; rest = v.rest ∙ ap (λ (ys : List BlockId). so_far ++ ys) r }
 
-      tells_so_far : test ≡ not (knows (known ++ so_far) here)
-      tells_so_far = tells ∙ ap (λ (ys : List BlockId). not (knows (known ++ ys) here)) el
+    found_fresh : knows (known ++ so_far) here ≡ false → FreshSoFar known xs (i + 1) (pack_prev_ids with_here)
+    found_fresh t =
+        let f = v.few in
+        let n = v.number in
+        let l = length-append so_far (here ∷ []) in
+        let p : listed_prev_ids (pack_prev_ids with_here) ≡ with_here = view_pack_prev_ids with_here in
+        let r : unknown_ids (known ++ so_far) (drop i xs) ≡ here ∷ unknown_ids ((known ++ so_far) ++ (here ∷ [])) (drop (i + 1) xs) = rw (drop_next xs i d h, t) in
+        record {
+          is_packed = ap pack_prev_ids (sym p);
+          few = omega arith;
+          number = ap length (sym p);
+          short = v.short;
+          rest =
+              v.rest ∙ ap (λ (ys : List BlockId). so_far ++ ys) r
+              ∙ ap (λ (ks : List BlockId). so_far ++ (here ∷ unknown_ids ks (drop (i + 1) xs))) (append_assoc known so_far (here ∷ []))
+              ∙ sym (append_assoc so_far (here ∷ []) (unknown_ids (known ++ with_here) (drop (i + 1) xs)))
+              ∙ ap (λ (ks : List BlockId). ks ++ unknown_ids (known ++ ks) (drop (i + 1) xs)) (sym p);
+        }
 
-      pub fresh_passed : test ≡ false → FreshSoFar known xs (i + 1) fresh
-      fresh_passed e =
-          let t = not_false (knows (known ++ so_far) here) (sym tells_so_far ∙ e) in
-          let f = v.few in
-          let r : unknown_ids (known ++ so_far) (drop i xs) ≡ unknown_ids (known ++ so_far) (drop (i + 1) xs) = rw (drop_next xs i d h, t) in
-          record { is_packed = v.is_packed; few = omega arith; rest = v.rest ∙ ap (λ (ys : List BlockId). so_far ++ ys) r }
+    pub fresh_taken : test ≡ true → (z : BlockId) → z ≡ zero_id → (r : PrevIds) →
+        r ≡ packed 2 z (spliced fresh.count fresh.count (get_or xs i d) (listed_prev_ids fresh)) → FreshSoFar known xs (i + 1) r
+    fresh_taken t z ez r e =
+        let n = v.number in
+        let s : spliced fresh.count fresh.count here so_far ≡ with_here =
+        ap₂ (λ (a b : List BlockId). a ++ (here ∷ b)) (take_all fresh.count so_far (omega arith)) (drop_all fresh.count so_far (omega arith)) in
+        subst (FreshSoFar known xs (i + 1)) (sym (e ∙ ap₂ (λ (y : BlockId) (ys : List BlockId). packed 2 y ys) ez s)) (found_fresh (not-true (knows (known ++ so_far) here) (sym tells_so_far ∙ t)))
 
-      found_fresh : knows (known ++ so_far) here ≡ false → FreshSoFar known xs (i + 1) (pack_prev_ids with_here)
-      found_fresh t =
-          let f = v.few in
-          let n = fresh_number in
-          let l = length-append so_far (here ∷ []) in
-          let p : listed_prev_ids (pack_prev_ids with_here) ≡ with_here = view_pack_prev_ids with_here in
-          let r : unknown_ids (known ++ so_far) (drop i xs) ≡ here ∷ unknown_ids ((known ++ so_far) ++ (here ∷ [])) (drop (i + 1) xs) = rw (drop_next xs i d h, t) in
-          record {
-            is_packed = ap pack_prev_ids (sym p);
-            few = omega arith;
-            rest =
-                v.rest ∙ ap (λ (ys : List BlockId). so_far ++ ys) r
-                ∙ ap (λ (ks : List BlockId). so_far ++ (here ∷ unknown_ids ks (drop (i + 1) xs))) (append_assoc known so_far (here ∷ []))
-                ∙ sym (append_assoc so_far (here ∷ []) (unknown_ids (known ++ with_here) (drop (i + 1) xs)))
-                ∙ ap (λ (ks : List BlockId). ks ++ unknown_ids (known ++ ks) (drop (i + 1) xs)) (sym p);
-          }
-
-      pub fresh_taken : test ≡ true → (z : BlockId) → z ≡ zero_id → (r : PrevIds) →
-          r ≡ packed 2 z (spliced fresh.count fresh.count (get_or xs i d) (listed_prev_ids fresh)) → FreshSoFar known xs (i + 1) r
-      fresh_taken t z ez r e =
-          let n = fresh_number in
-          let s : spliced fresh.count fresh.count here so_far ≡ with_here =
-          ap₂ (λ (a b : List BlockId). a ++ (here ∷ b)) (take_all fresh.count so_far (omega arith)) (drop_all fresh.count so_far (omega arith)) in
-          subst (FreshSoFar known xs (i + 1)) (sym (e ∙ ap₂ (λ (y : BlockId) (ys : List BlockId). packed 2 y ys) ez s)) (found_fresh (not_true (knows (known ++ so_far) here) (sym tells_so_far ∙ t)))
-
-  module _ (i : ℕ) (fresh : PrevIds) (v : FreshSoFar known xs i fresh) (h : length xs ≤ i) where
+  module _ (h : length xs ≤ i) where
     all_found : listed_prev_ids fresh ≡ unknown_ids known xs
     all_found = sym (v.rest ∙ rw (drop_all i xs h, append-nil))
 
     found_number : fresh.count ≡ length (unknown_ids known xs)
-    found_number = ap (λ (p : PrevIds). p.count) v.is_packed ∙ ap length all_found
+    found_number = v.number ∙ ap length all_found
 
     pub fresh_fits : length known + fresh.count ≤ 256 → fresh ≡ pack_prev_ids (fresh_ids known xs)
     unfolding fresh_ids
@@ -232,6 +217,8 @@ module _ (known xs : List BlockId) where
     fresh_none m z q =
         let n = found_number in
         q ∙ ap pack_prev_ids (passed (leb (length known + length (unknown_ids known xs)) 256) (unknown_ids known xs) [] (lt-leb _ _ (omega arith)))
+
+pub ruleset fresh_ends = (fresh_fits, fresh_none)
 
 -- ===== fingerprints =====
 

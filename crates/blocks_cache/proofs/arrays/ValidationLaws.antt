@@ -1,5 +1,7 @@
 -- Validation on a cache as it is held is the rule, packed; and its two parts, the questions of the record itself and the rest, are the call.
 -- Assumes nothing.
+use Rattle.blocks_cache.proofs.layout.AskedLaws.{asked_sound, own_refused, rest_decides, sound_passes}
+use Rattle.blocks_cache.specs.declared.validation.ValidationAnswer.{ValidationAnswer}
 use Rattle.blocks_group.proofs.arrays.GroupLaws.{block_at_packed, put_block_packed, put_model_fits}
 use Rattle.blocks_group.proofs.rules.GroupLaws.{GroupParts, group_parts, put_fits}
 use Rattle.blocks_group.specs.arrays.Group.{put_block}
@@ -8,7 +10,7 @@ use Rattle.blocks_group.specs.layout.Group.{MasterGroup, pack_group}
 use Rattle.blocks_group.specs.rules.Group.{at_seqno, entry_before, has_seqno, with_entries}
 use Rattle.block_records.specs.declared.questions.Refusal.TheVariants.{SeqnoLimit}
 use Rattle.std.specs.Prelude.{Option, option_map, None, Some, Ok}
-use Rattle.std.proofs.Common.{◌≡◌, ℕ, ◌≤◌, true, false, [], ◌∷◌, ◌++◌, length, sym, refl, ap, ◌∙◌, eqb-true, leb-true}
+use Rattle.std.proofs.Common.{◌≡◌, ℕ, ◌≤◌, true, false, [], ◌∷◌, ◌++◌, length, refl, ap, ◌∙◌, eqb-true, leb-true, List}
 use Rattle.block_records.specs.declared.block_id.BlockId.{BlockId}
 use Rattle.block_records.specs.declared.entry.BlockCacheEntryData.{BlockCacheEntryData}
 use Rattle.block_records.specs.declared.entry.MasterBlock.{MasterBlock}
@@ -19,16 +21,20 @@ use Rattle.block_records.specs.layout.Entry.{pack_master}
 use Rattle.block_records.specs.rules.BlockId.{is_masterchain}
 use Rattle.block_records.specs.rules.Entry.{Entry, with_kind}
 use Rattle.block_records.specs.rules.Lists.{put}
-use Rattle.block_records.specs.rules.Questions.{ask, id_fits}
-use Rattle.blocks_cache.proofs.layout.CallOnLaws.{first_part_refuses, on_sound, second_part_decides}
-use Rattle.blocks_cache.specs.arrays.Cache.{with_master_group}
-use Rattle.blocks_cache.specs.arrays.Validation.{held_validate_kind, validate_block, validate_master, validation_outcome}
-use Rattle.blocks_cache.specs.layout.Cache.{call_on, pack, pack_outcome, sound_cache, view}
+use Rattle.block_records.specs.rules.Questions.{ask, id_fits, Question}
+use Rattle.blocks_cache.proofs.layout.CallOnLaws.{on_sound}
+use Rattle.blocks_cache.specs.arrays.Cache.{with_master_group, CacheStep}
+use Rattle.blocks_cache.specs.arrays.Validation.{held_validate_kind, validate_block, validate_master, validation_says}
+use Rattle.blocks_cache.specs.layout.Cache.{call_on, pack, pack_outcome, view, unlent_outcome, HeldOutcome}
 use Rattle.cache_rules.proofs.SoundLaws.{parts}
-use Rattle.cache_rules.specs.Calls.{Call, Validation, refused, store_validation, unlent}
+use Rattle.cache_rules.specs.Calls.{Validation, refused, store_validation, unlent}
 use Rattle.cache_rules.specs.Effects.{answered, effect, outcome_of, result_status, validate_entry, validate_kind, validated_kind}
 use Rattle.cache_rules.specs.Model.{Model}
 use Rattle.cache_rules.specs.Refusals.{further, sound_model}
+
+-- what validation answers and leaves; no slice is lent with it
+abbrev pub validation_outcome : CacheStep ValidationAnswer → HeldOutcome
+validation_outcome s = unlent_outcome s.cache (validation_says (Ok s.answer))
 
 -- ===== on a packed cache =====
 
@@ -50,7 +56,7 @@ module _ (v : Validation) (m : Model) (ok : sound_model m ≡ true) (n : ℕ) wh
       validation_outcome (held_validate_kind v (pack_master e) o (pack m)) ≡ pack_outcome (outcome_of (validate_kind v e o m) [])
   kind_packed e f None = refl
   kind_packed e f (Some k) =
-      ap (λ (g : MasterGroup). validation_outcome (record { answer = Ok (status_updated (result_status v)); cache = with_master_group g (pack m) })) (changed_packed e k f)
+      ap (λ (g : MasterGroup). validation_outcome (record { answer = status_updated (result_status v); cache = with_master_group g (pack m) })) (changed_packed e k f)
 
   entry_packed : (o : Option Entry) → at_seqno n m.masters.entries ≡ o →
       validation_outcome (validate_block v (option_map pack_master o) (pack m)) ≡ pack_outcome (outcome_of (validate_entry v o m) [])
@@ -66,18 +72,18 @@ validation_packed i v m ok =
 
 -- ===== the call =====
 
-module _ (c : Cache) (i : BlockId) (v : Validation) (ok : sound_cache c ≡ true) where
-  abbrev call : Call
-  call = unlent (store_validation i v)
+module _ (c : Cache) (i : BlockId) (v : Validation) where
+  abbrev id_questions : List Question
+  id_questions = ask SeqnoLimit (id_fits i) ∷ []
 
-  asked_id : further (view c) 0 (store_validation i v) ≡ (ask SeqnoLimit (id_fits i) ∷ []) ++ []
+  asked_id : further (view c) 0 (store_validation i v) ≡ id_questions ++ []
   unfolding further
   asked_id = refl
 
-  pub validation_refuses : id_fits i ≡ false → record { cache = c; answer = refused SeqnoLimit; slice = [] } ≡ call_on c (unlent (store_validation i v))
-  validation_refuses h = sym (first_part_refuses c call ok (ask SeqnoLimit (id_fits i) ∷ []) [] asked_id SeqnoLimit (rw h))
+  pub validation_refuses : asked_sound c ≡ Ok tt → id_fits i ≡ false → unlent_outcome c (refused SeqnoLimit) ≡ call_on c (unlent (store_validation i v))
+  validation_refuses sound h = own_refused c (store_validation i v) id_questions [] asked_id sound SeqnoLimit (rw h)
 
-  pub validation_is : id_fits i ≡ true → validation_outcome (validate_master i.seqno v c) ≡ call_on c (unlent (store_validation i v))
-  validation_is h =
-      on_sound call (λ (c : Cache). validation_outcome (validate_master i.seqno v c)) (λ m. []) (validation_packed i v) c ok
-      ∙ sym (second_part_decides c call ok (ask SeqnoLimit (id_fits i) ∷ []) [] asked_id (rw h))
+  pub validation_is : asked_sound c ≡ Ok tt → id_fits i ≡ true → validation_outcome (validate_master i.seqno v c) ≡ call_on c (unlent (store_validation i v))
+  validation_is sound h =
+      on_sound (unlent (store_validation i v)) (λ (c : Cache). validation_outcome (validate_master i.seqno v c)) (λ m. []) (validation_packed i v) c (sound_passes c sound)
+      ∙ rest_decides c (store_validation i v) id_questions [] asked_id sound (rw h)

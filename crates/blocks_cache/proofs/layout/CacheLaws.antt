@@ -1,7 +1,7 @@
 -- Packing a sound model and viewing it again gives the model; what a sound cache is; no_cache is not sound.
 -- Assumes nothing.
 use Rattle.block_records.specs.layout.Listed.{listed}
-use Rattle.blocks_group.proofs.layout.GroupLaws.{all_kept_masters, all_kept_shards, group_same, listed_packed_each, view_pack_group}
+use Rattle.blocks_group.proofs.layout.GroupLaws.{all_kept_masters, all_kept_shards, group_same, view_pack_group}
 use Rattle.blocks_group.proofs.rules.GroupLaws.{shard_no_tops}
 use Rattle.blocks_group.specs.layout.Block.{master_laws, master_parts, shard_laws, shard_parts}
 use Rattle.blocks_group.specs.layout.Group.{MasterGroup, held_empty_group}
@@ -16,8 +16,7 @@ use Rattle.blocks_cache.specs.declared.cache.ShardGroup.{ShardGroup}
 use Rattle.blocks_cache.specs.declared.master_data.MasterData.{MasterData}
 use Rattle.block_records.proofs.layout.EntryLaws.{take_padded}
 use Rattle.block_records.proofs.layout.EqualityLaws.{both_same, id_same, list_same, nat_same, pair_same, shard_same, option_same}
-use Rattle.block_records.proofs.rules.ListLaws.{length_each}
-use Rattle.block_records.proofs.rules.Tests.{and_intro, and_left, and_right, not_true, not_true_false}
+use Rattle.block_records.proofs.rules.Tests.{and_intro}
 use Rattle.block_records.specs.layout.Zeros.{zero_id}
 use Rattle.block_records.specs.rules.BlockId.{is_masterchain}
 use Rattle.block_records.specs.rules.Lists.{padded}
@@ -27,23 +26,26 @@ use Rattle.cache_rules.proofs.SoundLaws.{parts, shard_parts as parts_of_shard}
 use Rattle.cache_rules.specs.Calls.{Call, refused}
 use Rattle.cache_rules.specs.Model.{Model, ShardModel, empty_model}
 use Rattle.cache_rules.specs.Refusals.{sound_model, sound_shard_model}
+use Rattle.std.proofs.lemmas.Bool.{not-true, false_from_ne_true}
+use Rattle.std.proofs.lemmas.List.{length-map}
+use Rattle.std.specs.Cmp.{first_so, second_so}
 
 view_pack_shard_group : (g : ShardModel) → sound_shard_model g ≡ true → view_shard (pack_shard g) ≡ g
 view_pack_shard_group g ok =
-    let side = not_true (is_masterchain g.shard) (and_left (not (is_masterchain g.shard)) (sound_group_model (of_shard g.shard) g.group) ok) in
+    let side = not-true (is_masterchain g.shard) (first_so (not (is_masterchain g.shard)) (sound_group_model (of_shard g.shard) g.group) ok) in
     let e = view_pack_group shard_parts g.group (all_kept_shards g.group.entries (shard_no_tops g.shard side g.group.entries (parts_of_shard g ok).fit)) in
     λ i. record { shard = g.shard; group = e i }
 
 view_pack_shard_groups : (gs : List ShardModel) → list_all sound_shard_model gs ≡ true → map view_shard (map pack_shard gs) ≡ gs
 view_pack_shard_groups [] ok = refl
 view_pack_shard_groups (g ∷ gs) ok =
-    ap₂ ◌∷◌ (view_pack_shard_group g (and_left (sound_shard_model g) (list_all sound_shard_model gs) ok)) (view_pack_shard_groups gs (and_right (sound_shard_model g) (list_all sound_shard_model gs) ok))
+    ap₂ ◌∷◌ (view_pack_shard_group g (first_so (sound_shard_model g) (list_all sound_shard_model gs) ok)) (view_pack_shard_groups gs (second_so (sound_shard_model g) (list_all sound_shard_model gs) ok))
 
 pub view_pack : (m : Model) → sound_model m ≡ true → view (pack m) ≡ m
 view_pack m ok =
     let a : take (length m.ids) (padded 32 zero_id m.ids) ≡ m.ids = take_padded 32 zero_id m.ids in
     let b : map view_shard (listed (pack m).shards) ≡ m.shards =
-    ap (map view_shard) (listed_packed_each 8 zero_shard_group pack_shard m.shards) ∙ view_pack_shard_groups m.shards (parts m ok).rest.shards.each_ok in
+    ap (map view_shard) (take_padded 8 zero_shard_group (map pack_shard m.shards)) ∙ view_pack_shard_groups m.shards (parts m ok).rest.shards.each_ok in
     let g = view_pack_group master_parts m.masters (all_kept_masters m.masters.entries) in
     λ i. record { zerostate = m.zerostate; masters = g i; ids = a i; range = m.range; shards = b i }
 
@@ -82,7 +84,7 @@ cache_same =
 pub sound_cache_packed : (c : Cache) → sound_cache c ≡ true → (c ≡ pack (view c)) × (sound_model (view c) ≡ true)
 unfolding sound_cache
 sound_cache_packed c h =
-    (cache_same.same_eq c (pack (view c)) (and_left (same_cache c (pack (view c))) (sound_model (view c)) h), and_right (same_cache c (pack (view c))) (sound_model (view c)) h)
+    (cache_same.same_eq c (pack (view c)) (first_so (same_cache c (pack (view c))) (sound_model (view c)) h), second_so (same_cache c (pack (view c))) (sound_model (view c)) h)
 
 -- the packing of a sound model is sound
 pub pack_sound : (m : Model) → sound_model m ≡ true → sound_cache (pack m) ≡ true
@@ -101,10 +103,10 @@ take_at_most (suc n) (x ∷ xs) = let ih = take_at_most n xs in omega arith
 -- a count past the places is not sound
 pub count_unsound : (c : Cache) → length c.shards.items < c.shards.count → sound_cache c ≡ false
 count_unsound c l =
-    not_true_false (sound_cache c)
+    false_from_ne_true (sound_cache c)
     (λ h.
     let e : c.shards.count ≡ length (map pack_shard (map view_shard (listed c.shards))) = ap (λ (x : Cache). x.shards.count) (sound_cache_packed c h).0 in
-    absurd (omega (arith, e, length_each pack_shard (map view_shard (listed c.shards)), length_each view_shard (listed c.shards), take_at_most c.shards.count c.shards.items)))
+    absurd (omega (arith, e, length-map (map view_shard (listed c.shards)) pack_shard, length-map (listed c.shards) view_shard, take_at_most c.shards.count c.shards.items)))
 
 pub no_cache_unsound : sound_cache no_cache ≡ false
 unfolding zero_cache

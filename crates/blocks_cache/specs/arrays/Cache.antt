@@ -1,4 +1,4 @@
--- A cache as it is held, with one of its parts replaced.
+-- A cache as it is held, with one of its parts replaced; and what a change of it answers and leaves.
 -- Assumes nothing.
 use Rattle.blocks_group.specs.layout.Group.{MasterGroup}
 use Rattle.std.specs.Prelude.{List}
@@ -20,3 +20,8 @@ with_master_data d c =
 abbrev pub with_shard_groups : List ShardGroup → Cache → Cache
 with_shard_groups gs c =
     record { zerostate_mc_seqno = c.zerostate_mc_seqno; masters = c.masters; «data» = c.«data»; shards = record { count = c.shards.count; items = gs } }
+
+-- what a change of a cache answers, and the cache that it leaves
+pub record CacheStep (A : Type 0) : Type 0 where
+  pub answer : A
+  pub cache : Cache

@@ -5,22 +5,18 @@ use Rattle.block_records.specs.layout.Listed.{listed}
 use Rattle.blocks_group.specs.arrays.Group.{set_boundary}
 use Rattle.blocks_group.specs.arrays.Queries.{collect_group, highest_below_boundary, lowest_collated_above, remove_collated_above}
 use Rattle.blocks_group.specs.layout.Block.{master_parts, shard_parts}
-use Rattle.block_records.specs.declared.questions.Refusal.TheVariants.{Unsound}
-use Rattle.std.specs.Prelude.{ℕ, List, [], ◌∷◌, ◌++◌, drop, map, slice_index_or, slice_set, Option, None, Some, cond, Err, Ok, Result, ⊤}
+use Rattle.std.specs.Prelude.{ℕ, List, ◌++◌, drop, map, slice_index_or, slice_set, Option, None, Some, cond, Err, Ok, Result, ⊤}
 use Rattle.block_records.specs.declared.block_id.BlockIdShort.{BlockIdShort}
 use Rattle.block_records.specs.declared.block_id.ShardIdent.{ShardIdent}
-use Rattle.block_records.specs.layout.Listed.{Keys}
 use Rattle.blocks_cache.specs.declared.cache.Cache.{Cache}
 use Rattle.blocks_cache.specs.declared.cache.ShardGroup.{ShardGroup}
-use Rattle.blocks_cache.specs.declared.collection.CacheChange.{CacheChange}
 use Rattle.block_records.specs.declared.questions.Refusal.{Refusal}
 use Rattle.blocks_cache.specs.declared.master_data.MasterData.{MasterData}
 use Rattle.block_records.specs.rules.BlockId.{is_masterchain, key_shard}
-use Rattle.block_records.specs.rules.Questions.{passed, ask, first_no, keys_questions}
 use Rattle.blocks_cache.specs.arrays.Cache.{with_master_data, with_master_group, with_shard_groups}
 use Rattle.blocks_cache.specs.arrays.MasterData.{drop_ids_below, drop_ids_from}
 use Rattle.blocks_cache.specs.arrays.Shards.{shard_place}
-use Rattle.blocks_cache.specs.layout.Cache.{HeldOutcome, Shards, sound_cache, zero_shard_group}
+use Rattle.blocks_cache.specs.layout.Cache.{Shards, zero_shard_group}
 use Rattle.blocks_group.specs.layout.Group.{ShardBlocks}
 use Rattle.cache_rules.specs.Calls.{Answer, done, refused}
 
@@ -30,18 +26,6 @@ use Rattle.cache_rules.specs.Calls.{Answer, done, refused}
 abbrev pub change_says : Result ⊤ Refusal → Answer
 change_says (Ok x) = done
 change_says (Err r) = refused r
-
--- answer and cache; no slice is lent
-abbrev pub change_outcome : CacheChange → HeldOutcome
-change_outcome r = record { cache = r.cache; answer = change_says r.answer; slice = [] }
-
--- done, and the cache left
-abbrev pub done_with : Cache → CacheChange
-done_with c = record { answer = Ok tt; cache = c }
-
--- question 1, then those of the keys
-abbrev pub keys_answer : Keys → Cache → Result ⊤ Refusal
-keys_answer ks c = passed (first_no (ask Unsound (sound_cache c) ∷ keys_questions ks))
 
 -- ===== a change of the group of one shard =====
 

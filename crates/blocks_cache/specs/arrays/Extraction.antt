@@ -7,6 +7,7 @@ use Rattle.block_records.specs.declared.entry.MasterBlock.{MasterBlock}
 use Rattle.block_records.specs.declared.top_block.TopBlock.{TopBlock}
 use Rattle.block_records.specs.layout.Listed.{TopBlocks, packed}
 use Rattle.blocks_group.specs.layout.Group.{ShardBlocks}
+use Rattle.blocks_cache.specs.declared.cache.Cache.{Cache}
 use Rattle.blocks_cache.specs.declared.cache.ShardGroup.{ShardGroup}
 use Rattle.blocks_cache.specs.declared.extraction.Extraction.{Extraction}
 use Rattle.blocks_cache.specs.declared.lookup.GroupSeqnos.{GroupSeqnos}
@@ -16,8 +17,8 @@ use Rattle.block_records.specs.layout.Zeros.{zero_entry}
 use Rattle.block_records.specs.rules.BlockId.{listed_tops}
 use Rattle.block_records.specs.rules.Entry.{Entry}
 use Rattle.block_records.specs.rules.Limits.{entries_limit, shards_limit, slice_places}
-use Rattle.blocks_cache.specs.layout.Cache.{pack_shard, zero_shard_group}
-use Rattle.cache_rules.specs.Extraction.{Walk, starts, top_id}
+use Rattle.blocks_cache.specs.layout.Cache.{pack_shard, view, zero_shard_group}
+use Rattle.cache_rules.specs.Extraction.{Walk, extraction_of, starts, top_id}
 
 -- ===== the waiting list =====
 
@@ -52,6 +53,10 @@ abbrev pub compact_shards : List ShardGroup → List GroupSeqnos → List ShardG
 compact_shards [] ss = []
 compact_shards (g ∷ gs) [] = []
 compact_shards (g ∷ gs) (s ∷ ss) = compact_shard g s ∷ compact_shards gs ss
+
+-- the walk from a master block of a cache
+abbrev pub held_walk : MasterBlock → Cache → Walk
+held_walk b c = extraction_of (view_master b) (view c)
 
 -- what a walk leaves, packed: groups and joined blocks first, zeros after them, and the number of the ids taken
 unfoldable pub pack_extraction : Walk → Extraction

@@ -9,6 +9,7 @@ use Rattle.block_records.specs.declared.block_id.ShardIdent.{ShardIdent}
 use Rattle.block_records.specs.declared.entry.BlockCacheEntry.{BlockCacheEntry}
 use Rattle.blocks_cache.specs.declared.cache.Cache.{Cache}
 use Rattle.blocks_cache.specs.declared.cache.ShardGroup.{ShardGroup}
+use Rattle.blocks_cache.specs.declared.lookup.BlockIndex.{BlockIndex}
 use Rattle.blocks_cache.specs.declared.lookup.GroupSeqnos.{GroupSeqnos}
 use Rattle.block_records.specs.layout.Listed.{listed}
 use Rattle.block_records.specs.layout.Zeros.{zero_entry}
@@ -16,7 +17,7 @@ use Rattle.block_records.specs.rules.BlockId.{id_shard}
 use Rattle.block_records.specs.rules.Limits.{entries_limit}
 use Rattle.block_records.specs.rules.Lists.{padded}
 use Rattle.blocks_cache.specs.arrays.Shards.{ident_at, shard_ident}
-use Rattle.blocks_cache.specs.layout.Cache.{zero_shard_group}
+use Rattle.blocks_cache.specs.layout.Cache.{Shards, zero_shard_group}
 use Rattle.blocks_group.specs.layout.Block.{block_seqno, shard_parts}
 use Rattle.blocks_group.specs.layout.Group.{ShardBlocks}
 
@@ -37,6 +38,10 @@ no_seqnos = record { entries = replicate entries_limit None; mark = None }
 -- of a shard's group
 abbrev pub shard_seqnos : ShardGroup → GroupSeqnos
 shard_seqnos g = group_seqnos g.group
+
+-- the shards of the groups and the seqnos of their blocks
+abbrev pub index_of : Shards → BlockIndex
+index_of s = record { idents = map shard_ident s.items; seqnos = map shard_seqnos s.items }
 
 -- ===== by the shards and seqnos that were gathered =====
 

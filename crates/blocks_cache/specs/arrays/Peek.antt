@@ -5,14 +5,12 @@ use Rattle.block_records.specs.layout.Listed.{listed, packed}
 use Rattle.blocks_group.specs.arrays.Queries.{first_applied_block}
 use Rattle.blocks_group.specs.layout.Block.{master_parts}
 use Rattle.block_records.specs.declared.questions.Refusal.{Refusal}
-use Rattle.std.specs.Prelude.{ℕ, List, [], ◌∷◌, ◌==◌, Option, None, Some, map, cond, Err, Ok, Result}
+use Rattle.std.specs.Prelude.{ℕ, List, [], ◌∷◌, ◌==◌, Option, option_map, None, Some, map, cond, Err, Ok, Result}
 use Rattle.block_records.specs.declared.entry.BlockCacheEntry.{BlockCacheEntry}
 use Rattle.block_records.specs.declared.entry.MasterBlock.{MasterBlock}
 use Rattle.block_records.specs.declared.top_block.TopBlock.{TopBlock}
 use Rattle.blocks_cache.specs.declared.cache.Cache.{Cache}
 use Rattle.blocks_cache.specs.declared.peek.Peek.{Peek}
-use Rattle.blocks_cache.specs.declared.peek.PeekAnswer.{PeekAnswer}
-use Rattle.blocks_cache.specs.declared.peek.PeekAnswer.TheVariants.{Found as peek_found, Nothing as peek_nothing}
 use Rattle.blocks_cache.specs.declared.peek.PeekRow.{PeekRow}
 use Rattle.blocks_cache.specs.declared.peek.TopRows.{TopRows}
 use Rattle.block_records.specs.layout.Zeros.{zero_id}
@@ -20,7 +18,6 @@ use Rattle.block_records.specs.rules.BlockId.{key}
 use Rattle.block_records.specs.rules.Limits.{tops_limit}
 use Rattle.blocks_cache.specs.arrays.Extraction.{held_starting_items}
 use Rattle.blocks_cache.specs.arrays.Lookup.{cached_block}
-use Rattle.blocks_cache.specs.layout.Cache.{HeldOutcome}
 use Rattle.cache_rules.specs.Calls.{Answer, Row, View, nothing, peeked, refused}
 
 -- ===== rows =====
@@ -40,29 +37,19 @@ zero_row = record { block_id = zero_id; ref_by_mc_seqno = 0; payload = 0 }
 -- ===== what an answer says =====
 
 -- the master's row and the view, nothing, or the refusal
-abbrev pub peek_says : Result PeekAnswer Refusal → Peek → Answer
-peek_says (Ok peek_found) r = peeked (view_row r.master) (record { rows = map view_row (listed r.tops); missing = r.missing })
-peek_says (Ok peek_nothing) r = nothing
-peek_says (Err n) r = refused n
+abbrev pub peek_says : Result (Option Peek) Refusal → Answer
+peek_says (Ok (Some r)) = peeked (view_row r.master) (record { rows = map view_row (listed r.tops); missing = r.missing })
+peek_says (Ok None) = nothing
+peek_says (Err n) = refused n
 
--- the cache is left as it was given; no slice is lent
-abbrev pub peek_outcome : Cache → Peek → HeldOutcome
-peek_outcome c r = record { cache = c; answer = peek_says r.answer r; slice = [] }
+-- zeros in the places of the tops' rows beyond their count
+abbrev pub zeroed_rows : Peek → Peek
+zeroed_rows r = record { master = r.master; tops = packed tops_limit zero_row (listed r.tops); missing = r.missing }
 
--- an answer with zeros beside it
-unfoldable pub zero_peek : Result PeekAnswer Refusal → Peek
-zero_peek a = record { answer = a; master = zero_row; tops = packed tops_limit zero_row []; missing = None }
-
--- the same with zeros in what its answer does not use: in the places beyond the count, and in all where nothing is found
-abbrev pub zeroed_peek_by : Result PeekAnswer Refusal → Peek → Peek
-zeroed_peek_by (Ok peek_found) r =
-    record { answer = Ok peek_found; master = r.master; tops = packed tops_limit zero_row (listed r.tops); missing = r.missing }
-zeroed_peek_by (Ok peek_nothing) r = zero_peek (Ok peek_nothing)
-zeroed_peek_by (Err n) r = zero_peek (Err n)
-
--- the same by its own answer
-abbrev pub zeroed_peek : Peek → Peek
-zeroed_peek r = zeroed_peek_by r.answer r
+-- the same of an answer
+abbrev pub zeroed_peek : Result (Option Peek) Refusal → Result (Option Peek) Refusal
+zeroed_peek (Ok o) = Ok (option_map zeroed_rows o)
+zeroed_peek (Err n) = Err n
 
 -- ===== the starting items =====
 
@@ -94,15 +81,14 @@ pack_view v = record { rows = packed tops_limit zero_row (map pack_row v.rows); 
 
 -- a master's row, and the view below it
 abbrev pub found_peek : PeekRow → TopRows → Peek
-found_peek master v = record { answer = Ok peek_found; master = master; tops = v.rows; missing = v.gap }
+found_peek master v = record { master = master; tops = v.rows; missing = v.gap }
 
--- peek at the master block found: its row and the view of its starting items
-abbrev pub peek_block : Cache → Option MasterBlock → Peek
-peek_block c None = zero_peek (Ok peek_nothing)
-peek_block c (Some b) =
+-- peek at a master block: its row and the view of its starting items
+abbrev pub peek_block : Cache → MasterBlock → Peek
+peek_block c b =
     found_peek (record { block_id = b.entry.block_id; ref_by_mc_seqno = b.entry.ref_by_mc_seqno; payload = b.entry.payload })
     (pack_view (held_view_tops b.entry.block_id.seqno c (held_starting_items c.zerostate_mc_seqno b.tops)))
 
 -- peek at the master block that pop would take from f on
-unfoldable pub held_peek : ℕ → Cache → Peek
-held_peek f c = peek_block c (first_applied_block master_parts f c.masters)
+unfoldable pub held_peek : ℕ → Cache → Option Peek
+held_peek f c = option_map (peek_block c) (first_applied_block master_parts f c.masters)

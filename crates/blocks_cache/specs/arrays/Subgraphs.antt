@@ -1,40 +1,29 @@
--- RULES.md, Pop and Sync extraction: as the code answers them, for every cache, request and number of places that the lent slice has. What each
--- answer says as the rules' answer is `extract_says`; proofs/arrays/SubgraphsLaws says that it is the rules' call.
+-- RULES.md, Pop and Sync extraction: what the code hands out of a cache, what it leaves, and what its answer says, for every cache. On a sound cache
+-- that is the rules' effect, packed (proofs/arrays/SubgraphsLaws).
 -- Assumes nothing.
+use Rattle.blocks_group.specs.arrays.Group.{without_block}
 use Rattle.blocks_group.specs.layout.Block.{block_seqno, master_parts}
-use Rattle.blocks_group.specs.layout.Group.{MasterGroup}
 use Rattle.block_records.specs.declared.questions.Refusal.{Refusal}
 use Rattle.block_records.specs.declared.range.AppliedRange.{AppliedRange}
-use Rattle.std.specs.Prelude.{◌≡◌, ℕ, ◌≤◌, List, [], ◌∷◌, length, min, take, map, cond, Option, Err, Ok, Result}
+use Rattle.std.specs.Prelude.{ℕ, List, ◌∷◌, length, min, cond, Option, Err, Ok, Result}
 use Rattle.block_records.specs.declared.entry.BlockCacheEntry.{BlockCacheEntry}
 use Rattle.block_records.specs.declared.entry.MasterBlock.{MasterBlock}
 use Rattle.blocks_cache.specs.declared.cache.Cache.{Cache}
-use Rattle.blocks_cache.specs.declared.extraction.ExtractAnswer.{ExtractAnswer}
-use Rattle.blocks_cache.specs.declared.extraction.ExtractAnswer.TheVariants.{AlreadyExtracted as already_answer, Extracted as extracted_answer, Popped as popped_extract}
-use Rattle.blocks_cache.specs.declared.extraction.ExtractWithBlocks.{ExtractWithBlocks}
-use Rattle.blocks_cache.specs.declared.extraction.Extraction.{Extraction}
+use Rattle.blocks_cache.specs.declared.extraction.McBlockSubgraph.{McBlockSubgraph}
 use Rattle.blocks_cache.specs.declared.extraction.SubgraphExtract.{SubgraphExtract}
-use Rattle.block_records.specs.layout.Entry.{pack_entry, pack_master}
-use Rattle.block_records.specs.layout.Zeros.{zero_entry, zero_master}
+use Rattle.blocks_cache.specs.declared.extraction.SubgraphExtract.TheVariants.{AlreadyExtracted as already_answer, Extracted as extracted_answer, Popped as popped_extract}
+use Rattle.block_records.specs.layout.Entry.{pack_master}
 use Rattle.block_records.specs.rules.Entry.{kind_applied}
-use Rattle.block_records.specs.rules.Limits.{array_places, slice_places}
-use Rattle.block_records.specs.rules.Lists.{padded}
-use Rattle.blocks_cache.specs.arrays.Extraction.{view_master}
+use Rattle.block_records.specs.rules.Limits.{array_places}
+use Rattle.blocks_cache.specs.arrays.Extraction.{pack_extraction, view_master}
 use Rattle.blocks_cache.specs.arrays.MasterData.{drop_ids_below}
-use Rattle.blocks_cache.specs.layout.Cache.{HeldOutcome, call_on, pack, sound_cache}
-use Rattle.cache_rules.specs.Calls.{Answer, Effect, Extract, Request, already_extracted, extracted, popped, refused}
-use Rattle.cache_rules.specs.Effects.{at_front}
+use Rattle.blocks_cache.specs.layout.Cache.{HeldOutcome, sound_cache}
+use Rattle.cache_rules.specs.Calls.{Answer, Extract, already_extracted, extracted, popped, refused}
+use Rattle.cache_rules.specs.Extraction.{Walk}
 use Rattle.cache_rules.specs.Refusals.{slice_questions}
 use Rattle.block_records.specs.declared.questions.Refusal.TheVariants.{SeqnoLimit, Unsound}
 use Rattle.block_records.specs.rules.Questions.{Question, ask, seqno_fits}
 use Rattle.cache_rules.specs.Model.{moved_start}
-
--- ===== what is handed out =====
-
--- nothing: zeros beside the answer
-abbrev pub no_extract : Result ExtractAnswer Refusal → Cache → ExtractWithBlocks
-no_extract a c =
-    record { extract = record { answer = a; master = zero_master; joined = 0; taken = 0; cache = c }; blocks = padded slice_places zero_entry [] }
 
 -- ===== the questions that both requests ask =====
 
@@ -42,27 +31,20 @@ no_extract a c =
 abbrev pub extract_questions : Cache → ℕ → ℕ → List Question
 extract_questions c n places = ask Unsound (sound_cache c) ∷ ask SeqnoLimit (seqno_fits n) ∷ slice_questions places
 
--- ===== what the code does to the arrays =====
+-- ===== what is handed out, and what is left =====
 
--- M with the walk's numbers and blocks; a cache with these masters, this range, the walk's shard groups, and the ids from M's seqno on
-abbrev pub hand_out : Cache → ExtractAnswer → MasterBlock → MasterGroup → Option AppliedRange → Extraction → ExtractWithBlocks
-hand_out c a b masters range x =
+-- M with the walk's numbers
+abbrev pub subgraph_of : MasterBlock → Walk → McBlockSubgraph
+subgraph_of b w = record { master = b; joined = length w.joined; taken = w.taken }
+
+-- the masters without M, the walk's shard groups, and the ids from M's seqno on
+abbrev pub handed_out : MasterBlock → Walk → Cache → Cache
+handed_out b w c =
     record {
-      extract =
-          record {
-            answer = Ok a;
-            master = b;
-            joined = x.blocks.count;
-            taken = x.taken;
-            cache =
-                record {
-                  zerostate_mc_seqno = c.zerostate_mc_seqno;
-                  masters = masters;
-                  «data» = record { ids = (drop_ids_below (block_seqno master_parts b) c.«data»).ids; range = range };
-                  shards = x.shards;
-                };
-          };
-      blocks = x.blocks.items;
+      zerostate_mc_seqno = c.zerostate_mc_seqno;
+      masters = without_block master_parts (block_seqno master_parts b) c.masters;
+      «data» = drop_ids_below (block_seqno master_parts b) c.«data»;
+      shards = (pack_extraction w).shards;
     }
 
 -- the range moved on past M, if M is applied
@@ -72,61 +54,30 @@ move_applied_start r b = cond (kind_applied b.entry.«data») (moved_start (bloc
 -- ===== an answer as the rules say it =====
 
 -- M, and the two numbers
-abbrev pub held_extract : SubgraphExtract → Extract
-held_extract r = record { block = view_master r.master; joined = r.joined; taken = r.taken }
+abbrev pub held_extract : McBlockSubgraph → Extract
+held_extract s = record { block = view_master s.master; joined = s.joined; taken = s.taken }
 
 -- what is handed out, already extracted, or the refusal
-abbrev pub extract_says : SubgraphExtract → Result ExtractAnswer Refusal → Answer
-extract_says r (Ok (popped_extract last)) = popped (held_extract r) last
-extract_says r (Ok extracted_answer) = extracted (held_extract r)
-extract_says r (Ok already_answer) = already_extracted
-extract_says r (Err n) = refused n
+abbrev pub extract_says : Result SubgraphExtract Refusal → Answer
+extract_says (Ok (popped_extract s last)) = popped (held_extract s) last
+extract_says (Ok (extracted_answer s)) = extracted (held_extract s)
+extract_says (Ok already_answer) = already_extracted
+extract_says (Err n) = refused n
 
 -- the answer, the cache, and the slice as it then is
-abbrev pub extract_outcome : SubgraphExtract → List BlockCacheEntry → HeldOutcome
-extract_outcome r slice = record { cache = r.cache; answer = extract_says r r.answer; slice = slice }
+abbrev pub extract_outcome : Cache → Result SubgraphExtract Refusal → List BlockCacheEntry → HeldOutcome
+extract_outcome c r slice = record { cache = c; answer = extract_says r; slice = slice }
 
--- a request as a call on the cache, with the slice that is lent
-abbrev pub extract_on : Cache → Request → List BlockCacheEntry → HeldOutcome
-extract_on c q lent = call_on c (record { request = q; lent = lent })
+-- zeros in M's unused places
+abbrev pub zeroed_subgraph : McBlockSubgraph → McBlockSubgraph
+zeroed_subgraph s = record { master = pack_master (view_master s.master); joined = s.joined; taken = s.taken }
 
--- the same with this master block
-abbrev pub with_master : MasterBlock → SubgraphExtract → SubgraphExtract
-with_master b r = record { answer = r.answer; master = b; joined = r.joined; taken = r.taken; cache = r.cache }
-
--- zeros in M's unused places, and everywhere where the answer hands out nothing
-abbrev pub zeroed_extract_by : SubgraphExtract → Result ExtractAnswer Refusal → SubgraphExtract
-zeroed_extract_by r (Ok (popped_extract last)) = with_master (pack_master (view_master r.master)) r
-zeroed_extract_by r (Ok extracted_answer) = with_master (pack_master (view_master r.master)) r
-zeroed_extract_by r (Ok already_answer) = record { answer = r.answer; master = zero_master; joined = 0; taken = 0; cache = r.cache }
-zeroed_extract_by r (Err n) = record { answer = r.answer; master = zero_master; joined = 0; taken = 0; cache = r.cache }
-
--- the same by its own answer
-abbrev pub zeroed_extract : SubgraphExtract → SubgraphExtract
-zeroed_extract r = zeroed_extract_by r r.answer
-
--- the blocks that joined
-abbrev pub joined_blocks : ExtractWithBlocks → List BlockCacheEntry
-joined_blocks p = take p.extract.joined p.blocks
-
--- ===== an extract with its blocks beside it =====
-
--- It is what a pop or a sync extraction does by the rules, packed: the cache, the answer, and the joined blocks with zeros after them.
-pub record PacksEffect (e : Effect) (p : ExtractWithBlocks) : Type 0 where
-  pub cache : p.extract.cache ≡ pack e.model
-  pub answer : extract_says p.extract p.extract.answer ≡ e.answer
-  pub joined : p.extract.joined ≡ length e.blocks
-  pub blocks : p.blocks ≡ padded slice_places zero_entry (map pack_entry e.blocks)
-  pub zeroed : p.extract ≡ zeroed_extract p.extract
-
--- It is the call with a slice of so many places: written over the front of any such slice, its blocks leave the call's outcome. They fit the slice,
--- there are zeros after them, and in the fields that the answer does not use.
-pub record ExtractsWithBlocks (c : Cache) (q : Request) (places : ℕ) (p : ExtractWithBlocks) : Type 0 where
-  pub outcome : (lent : List BlockCacheEntry) → length lent ≡ places → extract_outcome p.extract (at_front (joined_blocks p) lent) ≡ extract_on c q lent
-  pub fits : p.extract.joined ≤ places
-  pub few : p.extract.joined ≤ slice_places
-  pub rest : p.blocks ≡ padded slice_places zero_entry (joined_blocks p)
-  pub zeroed : p.extract ≡ zeroed_extract p.extract
+-- the same of an answer
+abbrev pub zeroed_extract : Result SubgraphExtract Refusal → Result SubgraphExtract Refusal
+zeroed_extract (Ok (popped_extract s last)) = Ok (popped_extract (zeroed_subgraph s) last)
+zeroed_extract (Ok (extracted_answer s)) = Ok (extracted_answer (zeroed_subgraph s))
+zeroed_extract (Ok already_answer) = Ok already_answer
+zeroed_extract (Err n) = Err n
 
 -- ===== an array in place of a slice =====
 

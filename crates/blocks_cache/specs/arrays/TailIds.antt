@@ -7,7 +7,7 @@ use Rattle.block_records.specs.declared.questions.Refusal.{Refusal}
 use Rattle.cache_rules.specs.TailIds.{less_option}
 use Rattle.block_records.specs.declared.questions.Refusal.TheVariants.{NoMaster}
 use Rattle.std.specs.List.{find, fold}
-use Rattle.std.specs.Prelude.{◌≤◌, ◌≡◌, ℕ, zero, suc, ◌+◌, ◌%◌, ◌^◌, Bool, true, false, ◌||◌, List, [], ◌∷◌, ◌++◌, length, take, ◌==◌, nat_eq, nat_le, nat_lt, slice_index_or, slice_set, Option, None, Some, map, cond, is_some, Err, Ok, Result, is_none, ⊤}
+use Rattle.std.specs.Prelude.{ℕ, zero, suc, ◌+◌, Bool, true, false, ◌||◌, List, [], ◌∷◌, ◌++◌, length, ◌==◌, nat_eq, nat_le, nat_lt, slice_index_or, slice_set, Option, None, Some, map, cond, is_some, Err, Ok, Result, is_none}
 use Rattle.block_records.specs.declared.block_id.BlockId.{BlockId}
 use Rattle.block_records.specs.declared.block_id.ShardIdent.{ShardIdent}
 use Rattle.block_records.specs.declared.entry.BlockCacheEntry.{BlockCacheEntry}
@@ -15,18 +15,14 @@ use Rattle.block_records.specs.declared.entry.MasterBlock.{MasterBlock}
 use Rattle.block_records.specs.declared.listed.Listed.{Listed}
 use Rattle.block_records.specs.layout.Listed.{PrevIds, listed, packed, put_listed}
 use Rattle.blocks_cache.specs.declared.cache.Cache.{Cache}
-use Rattle.blocks_cache.specs.declared.tail_ids.TailIds.{TailIds}
 use Rattle.blocks_cache.specs.declared.tail_ids.TailIdsRow.{TailIdsRow}
-use Rattle.blocks_cache.specs.declared.tail_ids.TailQueue.{TailQueue}
 use Rattle.blocks_cache.specs.declared.tail_ids.TailWalk.{TailWalk}
 use Rattle.block_records.specs.arrays.Place.{place}
 use Rattle.block_records.specs.layout.Entry.{pack_prev_ids}
 use Rattle.block_records.specs.layout.Zeros.{zero_id, zero_prev_ids, zero_shard}
 use Rattle.block_records.specs.rules.BlockId.{id_shard, less_shard, listed_prev_ids, listed_tops, same_shard}
-use Rattle.block_records.specs.rules.Limits.{queued_limit, queued_places, rows_limit}
-use Rattle.block_records.specs.rules.Lists.{padded}
+use Rattle.block_records.specs.rules.Limits.{queued_limit, rows_limit}
 use Rattle.blocks_cache.specs.arrays.Lookup.{cached_block}
-use Rattle.blocks_cache.specs.layout.Cache.{HeldOutcome}
 use Rattle.cache_rules.specs.Calls.{Answer, TailRow, refused, tail_ids}
 use Rattle.cache_rules.specs.Extraction.{top_id}
 use Rattle.cache_rules.specs.TailIdsOnce.{unknown_ids}
@@ -160,56 +156,26 @@ fresh_ids known ps = cond (nat_le (length known + length (unknown_ids known ps))
 abbrev pub has_number : List ℕ → ℕ → Bool
 has_number ns n = is_some (find (λ (x : ℕ). nat_eq x n) ns)
 
--- ids that are the same have the same fingerprint, so that most ids are known to be new without being compared
-unfoldable pub fingerprint : BlockId → ℕ
-fingerprint i = (i.shard.prefix + i.seqno) % 2 ^ 64
-
 -- ===== the walk =====
 
--- the rows so far, and all ids that were queued, each once
-pub record TailState : Type 0 where
-  pub tails : TailRows
-  pub known : List BlockId
-
--- the ids first with their fingerprints, zeros after them
-abbrev pub pack_queue : List BlockId → TailQueue
-pack_queue ids = record { ids = padded queued_places zero_id ids; fingerprints = padded queued_places 0 (map fingerprint ids); count = length ids }
-
--- the ids that were queued
-abbrev pub queue_ids : TailQueue → List BlockId
-queue_ids q = take q.count q.ids
-
--- they are the ids that it packs, 256 at most
-pub record IsQueue (q : TailQueue) : Type 0 where
-  pub few : q.count ≤ queued_limit
-  pub is_packed : q ≡ pack_queue (queue_ids q)
-
--- the rows and the queue, as they are held
-abbrev pub pack_walk : TailState → TailWalk
-pack_walk w = record { tails = w.tails; queue = pack_queue w.known }
-
--- what they say
-abbrev pub walk_state : TailWalk → TailState
-walk_state w = record { tails = w.tails; known = queue_ids w.queue }
-
 -- before the first id: the master's own row
-abbrev pub first_state : TailIdsRow → TailState
-first_state r = record { tails = with_rows (r ∷ []); known = [] }
+abbrev pub first_state : TailIdsRow → TailWalk
+first_state r = record { tails = with_rows (r ∷ []); queue = [] }
 
 -- a row given is held, and those of the previous ids that are not known are queued
-abbrev pub stepped : TailStep → TailState → TailState
-stepped s w = record { tails = hold_given s w.tails; known = w.known ++ fresh_ids w.known (listed_prev_ids s.queued) }
+abbrev pub stepped : TailStep → TailWalk → TailWalk
+stepped s w = record { tails = hold_given s w.tails; queue = w.queue ++ fresh_ids w.queue (listed_prev_ids s.queued) }
 
 -- one id of the walk
-unfoldable pub take_tail_id : Cache → ℕ → Bool → TailState → BlockId → TailState
+unfoldable pub take_tail_id : Cache → ℕ → Bool → TailWalk → BlockId → TailWalk
 take_tail_id c m as_top w i = stepped (step_of c m as_top i) w
 
 -- the id at place j of the queue, if one stands there
-abbrev pub take_queued_at : Cache → ℕ → ℕ → TailState → TailState
-take_queued_at c m j w = cond (nat_lt j (length w.known)) (take_tail_id c m false w (slice_index_or w.known j zero_id)) w
+abbrev pub take_queued_at : Cache → ℕ → ℕ → TailWalk → TailWalk
+take_queued_at c m j w = cond (nat_lt j (length w.queue)) (take_tail_id c m false w (slice_index_or w.queue j zero_id)) w
 
 -- those at k places of the queue, from place j on
-unfoldable pub take_queued : ℕ → Cache → ℕ → ℕ → TailState → TailState
+unfoldable pub take_queued : ℕ → Cache → ℕ → ℕ → TailWalk → TailWalk
 take_queued zero c m j w = w
 take_queued (suc k) c m j w = take_queued k c m (j + 1) (take_queued_at c m j w)
 
@@ -223,38 +189,22 @@ block_tails b c =
 -- ===== what an answer says =====
 
 -- rows, or the refusal
-abbrev pub tails_say : Result ⊤ Refusal → TailRows → Answer
-tails_say (Ok x) t = tail_ids (view_tails t)
-tails_say (Err n) t = refused n
+abbrev pub tails_say : Result TailRows Refusal → Answer
+tails_say (Ok t) = tail_ids (view_tails t)
+tails_say (Err n) = refused n
 
--- the cache is left as it was given; no slice is lent
-abbrev pub tail_outcome : Cache → TailIds → HeldOutcome
-tail_outcome c r = record { cache = c; answer = tails_say r.answer r.tails; slice = [] }
-
--- the rows with zeros in what they do not use; none beside a refusal
-abbrev pub zeroed_rows : Result ⊤ Refusal → TailRows → TailRows
-zeroed_rows (Ok x) t = pack_tails (view_tails t)
-zeroed_rows (Err n) t = with_rows []
-
--- the same answer with zeros in what it does not use
-abbrev pub zeroed_tails : TailIds → TailIds
-zeroed_tails r = record { answer = r.answer; tails = zeroed_rows r.answer r.tails }
+-- the rows with zeros in what they do not use
+abbrev pub zeroed_tails : Result TailRows Refusal → Result TailRows Refusal
+zeroed_tails (Ok t) = Ok (pack_tails (view_tails t))
+zeroed_tails (Err n) = Err n
 
 -- ===== tail ids =====
 
--- an answer with no row beside it
-abbrev pub no_tails : Result ⊤ Refusal → TailIds
-no_tails a = record { answer = a; tails = with_rows [] }
-
--- these rows
-abbrev pub given_tails : TailRows → TailIds
-given_tails t = record { answer = Ok tt; tails = t }
-
 -- the tail ids of the master block found; 12 where none was found
-abbrev pub tails_at : Option MasterBlock → Cache → TailIds
-tails_at None c = no_tails (Err NoMaster)
-tails_at (Some b) c = given_tails (block_tails b c)
+abbrev pub tails_at : Option MasterBlock → Cache → Result TailRows Refusal
+tails_at None c = Err NoMaster
+tails_at (Some b) c = Ok (block_tails b c)
 
 -- no row up to the zerostate's seqno; above it the tail ids of the master at the seqno
-unfoldable pub read_tails : ℕ → Cache → TailIds
-read_tails n c = cond (nat_le n c.zerostate_mc_seqno) (no_tails (Ok tt)) (tails_at (block_at master_parts n c.masters) c)
+unfoldable pub read_tails : ℕ → Cache → Result TailRows Refusal
+read_tails n c = cond (nat_le n c.zerostate_mc_seqno) (Ok (with_rows [])) (tails_at (block_at master_parts n c.masters) c)

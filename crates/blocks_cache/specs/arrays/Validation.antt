@@ -4,17 +4,15 @@
 use Rattle.blocks_group.specs.arrays.Group.{block_at, put_block}
 use Rattle.blocks_group.specs.layout.Block.{block_kind, master_parts, with_block_data}
 use Rattle.block_records.specs.declared.questions.Refusal.{Refusal}
-use Rattle.std.specs.Prelude.{ℕ, [], Option, None, Some, Err, Ok, Result}
+use Rattle.std.specs.Prelude.{ℕ, Option, None, Some, Err, Ok, Result}
 use Rattle.block_records.specs.declared.entry.BlockCacheEntryData.{BlockCacheEntryData}
 use Rattle.block_records.specs.declared.entry.MasterBlock.{MasterBlock}
 use Rattle.blocks_cache.specs.declared.cache.Cache.{Cache}
 use Rattle.blocks_cache.specs.declared.validation.ValidationAnswer.{ValidationAnswer}
 use Rattle.blocks_cache.specs.declared.validation.ValidationAnswer.TheVariants.{NoChange as status_kept, Updated as status_updated}
-use Rattle.blocks_cache.specs.declared.validation.ValidationResult.{ValidationResult}
 use Rattle.blocks_cache.specs.declared.validation.ValidationStatus.{ValidationStatus}
 use Rattle.blocks_cache.specs.declared.validation.ValidationStatus.TheVariants.{Complete as validation_complete, Skipped as validation_skipped}
-use Rattle.blocks_cache.specs.arrays.Cache.{with_master_group}
-use Rattle.blocks_cache.specs.layout.Cache.{HeldOutcome}
+use Rattle.blocks_cache.specs.arrays.Cache.{CacheStep, with_master_group}
 use Rattle.cache_rules.specs.Calls.{Answer, Validation, complete, no_change, refused, skipped, validated}
 use Rattle.cache_rules.specs.Effects.{result_status, validated_kind}
 
@@ -31,27 +29,23 @@ validation_says (Ok (status_updated st)) = validated st
 validation_says (Ok status_kept) = no_change
 validation_says (Err n) = refused n
 
--- answer and cache; no slice is lent
-abbrev pub validation_outcome : ValidationResult → HeldOutcome
-validation_outcome r = record { cache = r.cache; answer = validation_says r.answer; slice = [] }
-
 -- ===== the master block at a seqno =====
 
 -- no change
-abbrev pub kept_status : Cache → ValidationResult
-kept_status c = record { answer = Ok status_kept; cache = c }
+abbrev pub kept_status : Cache → CacheStep ValidationAnswer
+kept_status c = record { answer = status_kept; cache = c }
 
 -- the master block with its new kind, and the status as the answer; or no change
-abbrev pub held_validate_kind : Validation → MasterBlock → Option BlockCacheEntryData → Cache → ValidationResult
+abbrev pub held_validate_kind : Validation → MasterBlock → Option BlockCacheEntryData → Cache → CacheStep ValidationAnswer
 held_validate_kind v b None c = kept_status c
 held_validate_kind v b (Some k) c =
-    record { answer = Ok (status_updated (result_status v)); cache = with_master_group (put_block master_parts (with_block_data master_parts k b) c.masters) c }
+    record { answer = status_updated (result_status v); cache = with_master_group (put_block master_parts (with_block_data master_parts k b) c.masters) c }
 
 -- validation of the master block found; no change where none was found
-abbrev pub validate_block : Validation → Option MasterBlock → Cache → ValidationResult
+abbrev pub validate_block : Validation → Option MasterBlock → Cache → CacheStep ValidationAnswer
 validate_block v None c = kept_status c
 validate_block v (Some b) c = held_validate_kind v b (validated_kind v (block_kind master_parts b)) c
 
 -- validation of the master block at a seqno
-unfoldable pub validate_master : ℕ → Validation → Cache → ValidationResult
+unfoldable pub validate_master : ℕ → Validation → Cache → CacheStep ValidationAnswer
 validate_master n v c = validate_block v (block_at master_parts n c.masters) c

@@ -4,7 +4,7 @@
 use Rattle.blocks_group.specs.layout.Block.{master_parts, shard_parts}
 use Rattle.blocks_group.specs.layout.Group.{held_empty_group, pack_group, same_group, sound_group, view_group}
 use Rattle.blocks_group.specs.rules.Soundness.{of_shard}
-use Rattle.block_records.specs.layout.Listed.{listed, packed}
+use Rattle.block_records.specs.layout.Listed.{listed, packed, tidy_listed}
 use Rattle.block_records.specs.declared.listed.Listed.{Listed}
 use Rattle.block_records.specs.declared.questions.Refusal.{Refusal}
 use Rattle.std.specs.Option.{option_eq}
@@ -12,7 +12,7 @@ use Rattle.block_records.specs.declared.range.AppliedRange.{AppliedRange}
 use Rattle.block_records.specs.declared.questions.Refusal.TheVariants.{SeqnoLimit, Unsound}
 use lib.Pointwise.{pointwise}
 use Rattle.std.specs.List.{list_all}
-use Rattle.std.specs.Prelude.{ℕ, suc, Bool, not, ◌&&◌, List, [], ◌∷◌, length, drop, replicate, ◌==◌, nat_le, Option, None, Some, map, cond, Err, Ok}
+use Rattle.std.specs.Prelude.{ℕ, suc, Bool, not, ◌&&◌, List, [], ◌∷◌, length, replicate, ◌==◌, Option, None, Some, map, cond, Err, Ok}
 use Rattle.block_records.specs.declared.entry.BlockCacheEntry.{BlockCacheEntry}
 use Rattle.blocks_cache.specs.declared.cache.Cache.{Cache}
 use Rattle.blocks_cache.specs.declared.cache.NewCache.{NewCache}
@@ -115,15 +115,12 @@ sound_shard_group g = not (is_masterchain g.shard) && sound_group shard_parts (o
 
 -- last collated ids: no more than their places, zeros after them, rising by seqno, all of the masterchain
 abbrev pub sound_ids : MasterData → Bool
-sound_ids d =
-    nat_le d.ids.count ids_limit && (list_all is_zero_id (drop d.ids.count d.ids.items)
-    && (rising id_before (listed d.ids) && list_all id_masterchain (listed d.ids)))
+sound_ids d = tidy_listed ids_limit is_zero_id d.ids && (rising id_before (listed d.ids) && list_all id_masterchain (listed d.ids))
 
 -- shard groups: no more than their places, zeros after them, rising by shard, each sound
 abbrev pub sound_shards : Shards → Bool
 sound_shards s =
-    nat_le s.count shards_limit && (list_all is_zero_shard_group (drop s.count s.items)
-    && (rising shard_group_before (listed s) && list_all sound_shard_group (listed s)))
+    tidy_listed shards_limit is_zero_shard_group s && (rising shard_group_before (listed s) && list_all sound_shard_group (listed s))
 
 -- the master group, the range by its mark, the last collated ids and the shard groups
 abbrev pub sound_cache_by_parts : Cache → Bool
@@ -136,6 +133,10 @@ pub record HeldOutcome : Type 0 where
   pub cache : Cache
   pub answer : Answer
   pub slice : List BlockCacheEntry
+
+-- what a call to which no slice is lent leaves and answers
+abbrev pub unlent_outcome : Cache → Answer → HeldOutcome
+unlent_outcome c a = record { cache = c; answer = a; slice = [] }
 
 -- an outcome of the rules as it is held
 abbrev pub pack_outcome : Outcome → HeldOutcome

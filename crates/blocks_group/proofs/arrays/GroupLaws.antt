@@ -3,7 +3,6 @@
 use Rattle.std.specs.Prelude.{Option, option_map, None, Some, map, cond, filter}
 use mathlib.Core.Bool.{Bool, ◌||◌, false, not, true}
 use mathlib.Core.List.{List}
-use mathlib.Core.Logic.{◌≢◌}
 use mathlib.Core.Path.{◌∙◌, ◌≡◌, ap, refl, sym}
 use Prim.Native.Nat.{◌≤◌, ℕ}
 use borrow.Author.Tests.{le-leb, lt-leb, ltb-false, ltb-true}
@@ -11,20 +10,21 @@ use lib.Dec.{eqb, leb, ltb}
 use lib.ListN.{length}
 use Rattle.block_records.specs.declared.block_id.BlockIdShort.{BlockIdShort}
 use Rattle.block_records.proofs.arrays.ArrayLaws.{each_put, each_select}
-use Rattle.block_records.proofs.rules.ListLaws.{by_number, length_each, rising_each, rising_put, rising_select}
+use Rattle.block_records.proofs.rules.ListLaws.{by_number, rising_each, rising_put, rising_select}
 use Rattle.block_records.proofs.rules.Tests.{on}
 use Rattle.block_records.specs.layout.Listed.{packed}
 use Rattle.block_records.specs.rules.Entry.{Entry, is_received, kind_received}
 use Rattle.block_records.specs.rules.Lists.{put, rising}
-use Rattle.blocks_group.proofs.arrays.LookupLaws.{find_each, find_put_other, find_put_same, find_retained, if_passes, seqno_place_finds}
+use Rattle.blocks_group.proofs.arrays.LookupLaws.{find_each, find_retained, if_passes, seqno_place_finds}
 use Rattle.blocks_group.proofs.layout.BlockLaws.{packed_before, packed_kind, packed_seqno}
 use Rattle.blocks_group.proofs.layout.GroupLaws.{listed_packed}
 use Rattle.blocks_group.proofs.rules.GroupLaws.{at_without_same, entry_seqno}
-use Rattle.blocks_group.specs.arrays.Group.{block_at, found_at, other_seqno, put_block, refresh_group, without_block, retain_blocks, set_boundary}
+use Rattle.blocks_group.specs.arrays.Group.{block_at, found_at, other_seqno, put_block, refresh_group, without_block, retain_blocks}
 use Rattle.blocks_group.specs.arrays.Search.{seqno_place}
 use Rattle.blocks_group.specs.layout.Block.{BlockLaws, BlockParts, block_before, block_kind, block_seqno, pack_block, zero_block}
 use Rattle.blocks_group.specs.layout.Group.{pack_group, with_blocks}
-use Rattle.blocks_group.specs.rules.Group.{GroupModel, at_seqno, below_boundary, collated_above, collected, entry_before, has_seqno, refresh, with_boundary, with_entries, without, without_collated_above}
+use Rattle.blocks_group.specs.rules.Group.{GroupModel, at_seqno, below_boundary, collated_above, collected, entry_before, has_seqno, refresh, with_entries, without, without_collated_above}
+use Rattle.std.proofs.lemmas.List.{length-map}
 
 -- where it would be the 17th, nothing changes
 abbrev pub put_model : Entry → GroupModel → GroupModel
@@ -33,13 +33,7 @@ put_model e m = cond (leb (length (put entry_before e m.entries)) 16) (with_entr
 pub put_model_fits : (e : Entry) (m : GroupModel) → length (put entry_before e m.entries) ≤ 16 → put_model e m ≡ with_entries (put entry_before e m.entries) m
 put_model_fits e m h = rw (le-leb (length (put entry_before e m.entries)) 16 h)
 
--- after an entry is put, and after entries are retained
-pub at_put_same : (e : Entry) (es : List Entry) → at_seqno e.id.seqno (put entry_before e es) ≡ Some e
-at_put_same e es = find_put_same entry_seqno e es
-
-pub at_put_other : (n : ℕ) (e : Entry) (es : List Entry) → n ≢ e.id.seqno → at_seqno n (put entry_before e es) ≡ at_seqno n es
-at_put_other n e es d = find_put_other entry_seqno n e es d
-
+-- after entries are retained
 pub at_retained : (n : ℕ) (p : Entry → Bool) (es : List Entry) → rising entry_before es ≡ true → at_seqno n (filter p es) ≡ if_passes p (at_seqno n es)
 at_retained n p es r = find_retained entry_seqno n p es r
 
@@ -50,7 +44,7 @@ module _ {B : Type 0} (k : BlockParts B) (h : BlockLaws k) where
     pub put_block_packed : put_block k (pack_block k e) (pack_group k m) ≡ pack_group k (put_model e m)
     put_block_packed =
         let after = put entry_before e m.entries in
-        let l = length_each (pack_block k) after in
+        let l = length-map after (pack_block k) in
         ap (λ (bs : List B). record { mark = m.mark; boundary = m.boundary; entries = cond (leb (length bs) 16) (packed 16 (zero_block k) bs) (pack_group k m).entries })
         (ap (put (block_before k) (pack_block k e)) (listed_packed k m) ∙ each_put (pack_block k) entry_before (block_before k) (packed_before k h) e m.entries)
         ∙ on (leb (length after) 16)
@@ -103,10 +97,7 @@ module _ {B : Type 0} (k : BlockParts B) (h : BlockLaws k) where
     pub remove_block_packed : (n : ℕ) → without_block k n (pack_group k m) ≡ pack_group k (with_entries (without n m.entries) m)
     remove_block_packed n = retain_packed (other_seqno k n) (λ (e : Entry). not (has_seqno n e)) (of_another n) m
 
-    -- ===== the boundary and the mark =====
-
-    pub set_boundary_packed : (key : BlockIdShort) → set_boundary key (pack_group k m) ≡ pack_group k (with_boundary key m)
-    set_boundary_packed key = refl
+    -- ===== the mark =====
 
     pub refresh_packed : (n : ℕ) → refresh_group n (pack_group k m) ≡ pack_group k (refresh n m)
     refresh_packed n = refl

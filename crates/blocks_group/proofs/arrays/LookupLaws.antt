@@ -12,14 +12,16 @@ use borrow.Author.Tests.{eq-eqb, eqb-true, ltb-false, ltb-true, ne_eqb}
 use lib.Dec.{eqb, ltb}
 use Rattle.std.specs.Ordering.{is_eq, is_lt, nat_cmp}
 use Rattle.block_records.proofs.arrays.PlaceLaws.{next_place, place_each}
+use Rattle.block_records.proofs.rules.Finds.{find_none}
 use Rattle.block_records.proofs.rules.BlockIdLaws.{nat_eq_is, nat_lt_is}
 use Rattle.block_records.proofs.rules.ListLaws.{every_select, every_weaken}
-use Rattle.block_records.proofs.rules.Tests.{and_left, and_right, not_true, on}
+use Rattle.block_records.proofs.rules.Tests.{on}
 use Rattle.block_records.specs.arrays.Place.{place}
 use Rattle.block_records.specs.rules.Lists.{put, rising}
 use Rattle.blocks_group.proofs.arrays.SearchLaws.{seqno_place_cons}
 use Rattle.blocks_group.specs.arrays.Group.{found_at}
 use Rattle.blocks_group.specs.arrays.Search.{number_below, number_is, seqno_place}
+use Rattle.std.specs.Cmp.{first_so, second_so}
 
 -- what stands at a place is found one place further with an element more in front
 pub at_next : {A : Type 0} (z x : A) (xs : List A) (p : Result ℕ ℕ) → found_at z (x ∷ xs) (next_place p) ≡ found_at z xs p
@@ -33,12 +35,6 @@ module _ {A B : Type 0} where
   find_each f p q same (x ∷ xs) = on (p x) (λ t. rw (same x, t)) (λ t. rw (same x, t) (find_each f p q same xs))
 
 module _ {A : Type 0} where
-  -- none passes in a list of which all fail
-  pub find_none : (p : A → Bool) (xs : List A) → list_all (λ (x : A). not (p x)) xs ≡ true → find p xs ≡ None
-  find_none p [] h = refl
-  find_none p (x ∷ xs) h =
-      rw (not_true (p x) (and_left (not (p x)) (list_all (λ (x : A). not (p x)) xs) h)) (find_none p xs (and_right (not (p x)) (list_all (λ (x : A). not (p x)) xs) h))
-
   -- the one found, where it passes
   abbrev pub if_passes : (A → Bool) → Option A → Option A
   if_passes p None = None
@@ -66,8 +62,8 @@ module _ {A : Type 0} (f : A → ℕ) where
   unfolding place
   seqno_place_finds n z [] r = refl
   seqno_place_finds n z (x ∷ xs) r =
-      let above = and_left (list_all (by_f x) xs) (rising by_f xs) r in
-      let ih = seqno_place_finds n z xs (and_right (list_all (by_f x) xs) (rising by_f xs) r) in
+      let above = first_so (list_all (by_f x) xs) (rising by_f xs) r in
+      let ih = seqno_place_finds n z xs (second_so (list_all (by_f x) xs) (rising by_f xs) r) in
       rw (seqno_place_cons n (f x) (map f xs))
       (on (ltb (f x) n)
       (λ t. let l = ltb-true (f x) n t in rw (t, ne_eqb (f x) n (λ e. omega arith)) (at_next z x xs (seqno_place n (map f xs)) ∙ ih))
@@ -105,8 +101,8 @@ module _ {A : Type 0} (f : A → ℕ) where
   pub find_retained : (n : ℕ) (p : A → Bool) (xs : List A) → rising by_f xs ≡ true → find (λ (y : A). eqb (f y) n) (filter p xs) ≡ if_passes p (find (λ (y : A). eqb (f y) n) xs)
   find_retained n p [] r = refl
   find_retained n p (x ∷ xs) r =
-      let above = and_left (list_all (by_f x) xs) (rising by_f xs) r in
-      let ih = find_retained n p xs (and_right (list_all (by_f x) xs) (rising by_f xs) r) in
+      let above = first_so (list_all (by_f x) xs) (rising by_f xs) r in
+      let ih = find_retained n p xs (second_so (list_all (by_f x) xs) (rising by_f xs) r) in
       on (eqb (f x) n)
       (λ t.
       let e = eqb-true (f x) n t in

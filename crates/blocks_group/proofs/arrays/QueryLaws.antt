@@ -1,32 +1,28 @@
 -- On a packed group, what pop, peek, collect and remove next collated ask is what the rules say of the model; and that the ids which go with the
 -- removed masters are those by the highest, resp. the lowest, of their seqnos.
 -- Assumes nothing.
-use Rattle.std.specs.List.{find, fold, list_any}
+use Rattle.std.specs.List.{find, fold, list_any, reduce}
 use Rattle.std.specs.Prelude.{Option, option_map, None, Some, map, is_some, filter}
-use mathlib.Core.Bool.{Bool, ◌&&◌, false, not, true}
+use mathlib.Core.Bool.{Bool, ◌&&◌, not, true}
 use mathlib.Core.List.{List, [], ◌∷◌}
 use mathlib.Core.Path.{◌∙◌, ◌≡◌, ap, refl, sym}
-use Prim.Native.Nat.{◌+◌, ◌<◌, ◌≤◌, ℕ}
-use lib.ListN.{drop, get_or, length}
+use Prim.Native.Nat.{max, min, ℕ}
 use native.Mathlib.Omega.{arith}
-use borrow.Author.Tests.{le-leb, leb-true, lt-ltb, ltb-false, ltb-true}
+use borrow.Author.Tests.{le-leb, le-ltb, leb-false, leb-true, lt-leb, lt-ltb, ltb-false, ltb-true}
 use lib.Dec.{leb, ltb}
 use Rattle.block_records.specs.declared.block_id.BlockIdShort.{BlockIdShort}
 use Rattle.block_records.proofs.arrays.ArrayLaws.{each_select}
-use Rattle.std.proofs.lemmas.List.{drop_all}
 use Rattle.block_records.proofs.arrays.ListedLaws.{any_finds}
-use Rattle.block_records.proofs.arrays.LoopLaws.{drop_next}
 use Rattle.block_records.proofs.rules.Tests.{on}
 use Rattle.block_records.specs.rules.Entry.{Entry, is_applied, kind_applied, kind_received}
 use Rattle.blocks_group.specs.declared.group.Group.{Group}
 use Rattle.block_records.specs.layout.Listed.{listed}
 use Rattle.blocks_group.proofs.arrays.GroupLaws.{collected_packed, without_collated_above_packed}
 use Rattle.blocks_group.proofs.arrays.LookupLaws.{find_each}
-use Rattle.blocks_group.proofs.arrays.SoundnessLaws.{and_false}
 use Rattle.blocks_group.proofs.layout.BlockLaws.{packed_kind, packed_seqno}
 use Rattle.blocks_group.proofs.layout.GroupLaws.{listed_packed}
 use Rattle.blocks_group.proofs.rules.GroupLaws.{entry_seqno}
-use Rattle.blocks_group.specs.arrays.Queries.{any_applied_above, held_applied_above, held_applied_from, below_group_boundary, block_collated_above, chosen, collect_group, collected_by, first_applied_block, higher_of, highest_below_boundary, highest_seqno, lower_of, lowest_collated_above, lowest_seqno, remove_collated_above, seqnos_of}
+use Rattle.blocks_group.specs.arrays.Queries.{any_applied_above, held_applied_above, held_applied_from, below_group_boundary, block_collated_above, collect_group, collected_by, first_applied_block, highest_below_boundary, highest_seqno, lowest_collated_above, lowest_seqno, remove_collated_above, seqnos_of}
 use Rattle.blocks_group.specs.layout.Block.{BlockLaws, BlockParts, block_seqno, pack_block}
 use Rattle.blocks_group.specs.layout.Group.{pack_group}
 use Rattle.blocks_group.specs.rules.Group.{GroupModel, below_boundary, collated_above, collected, with_entries, without_collated_above}
@@ -50,25 +46,6 @@ select_all {A} (x ∷ xs) = ap (λ (r : List A). x ∷ r) (select_all xs)
 collected_none : (m : GroupModel) → m.boundary ≡ None → collected m ≡ m
 collected_none m e =
     ap (λ (o : Option BlockIdShort). with_entries (filter (λ (e : Entry). not (below_boundary o e)) m.entries) m) e ∙ ap (λ (es : List Entry). with_entries es m) (select_all m.entries)
-
--- ===== one turn of the loop that chooses among the numbers of those that pass: what is left to be chosen from =====
-
-module _ {A : Type 0} (s : A → ℕ) (p : A → Bool) (f : ℕ → ℕ → ℕ) where
-  abbrev pub chosen_from : Option ℕ → List A → Option ℕ
-  chosen_from best xs = fold (chosen f) best (map s (filter p xs))
-
-  module _ (xs : List A) (i : ℕ) (x : A) (here : x ≡ get_or xs i x) (within : i < length xs) (best : Option ℕ) where
-    split : drop i xs ≡ x ∷ drop (i + 1) xs
-    split = drop_next xs i x within ∙ ap (λ (y : A). y ∷ drop (i + 1) xs) (sym here)
-
-    pub chosen_yes : p x ≡ true → chosen_from best (drop i xs) ≡ chosen_from (chosen f best (s x)) (drop (i + 1) xs)
-    chosen_yes t = ap (chosen_from best) split ∙ rw t
-
-    pub chosen_no : p x ≡ false → chosen_from best (drop i xs) ≡ chosen_from best (drop (i + 1) xs)
-    chosen_no t = ap (chosen_from best) split ∙ rw t
-
-  pub chosen_end : (xs : List A) (i : ℕ) (best : Option ℕ) → length xs ≤ i → chosen_from best (drop i xs) ≡ best
-  chosen_end xs i best h = ap (chosen_from best) (drop_all i xs h)
 
 module _ {B : Type 0} (k : BlockParts B) (h : BlockLaws k) where
   -- ===== applied blocks =====
@@ -146,35 +123,36 @@ module _ {I : Type 0} where
 
   -- each number in turn keeps some: those that stay are those that stay by the choice of the numbers
   module _ {E : Type 0} (stays : ℕ → I → Bool) (choice : ℕ → ℕ → ℕ) (both : (k n : ℕ) (i : I) → stays k i && stays n i ≡ stays (choice k n) i) (f : E → ℕ) where
-    kept_step : (o : Option ℕ) (n : ℕ) (ids : List I) → filter (stays n) (kept_by stays o ids) ≡ kept_by stays (chosen choice o n) ids
-    kept_step None n ids = refl
-    kept_step (Some k) n ids = select_twice (stays n) (stays k) (stays (choice k n)) (both k n) ids
+    kept_from : (n : ℕ) (es : List E) (ids : List I) →
+        fold (λ (is : List I) (e : E). filter (stays (f e)) is) (filter (stays n) ids) es ≡ filter (stays (fold choice n (map f es))) ids
+    kept_from n [] ids = refl
+    kept_from n (e ∷ es) ids =
+        ap (λ (is : List I). fold (λ (is : List I) (e : E). filter (stays (f e)) is) is es) (select_twice (stays (f e)) (stays n) (stays (choice n (f e))) (both n (f e)) ids)
+        ∙ kept_from (choice n (f e)) es ids
 
-    kept_fold : (o : Option ℕ) (es : List E) (ids : List I) →
-        fold (λ (is : List I) (e : E). filter (stays (f e)) is) (kept_by stays o ids) es ≡ kept_by stays (fold (chosen choice) o (map f es)) ids
-    kept_fold o [] ids = refl
-    kept_fold o (e ∷ es) ids =
-        ap (λ (is : List I). fold (λ (is : List I) (e : E). filter (stays (f e)) is) is es) (kept_step o (f e) ids) ∙ kept_fold (chosen choice o (f e)) es ids
+    kept_fold : (es : List E) (ids : List I) → fold (λ (is : List I) (e : E). filter (stays (f e)) is) ids es ≡ kept_by stays (reduce choice (map f es)) ids
+    kept_fold [] ids = refl
+    kept_fold (e ∷ es) ids = kept_from (f e) es ids
 
   module _ {E : Type 0} (f : E → ℕ) (g : I → ℕ) where
     -- ids dropped below each element are those dropped below the highest
     pub below_go : (es : List E) (ids : List I) →
         fold (λ (is : List I) (e : E). filter (λ (i : I). leb (f e) (g i)) is) ids es ≡ kept_by (λ (n : ℕ) (i : I). leb n (g i)) (highest_seqno (map f es)) ids
-    below_go es ids = kept_fold (λ (n : ℕ) (i : I). leb n (g i)) higher_of both f None es ids
+    below_go es ids = kept_fold (λ (n : ℕ) (i : I). leb n (g i)) max both f es ids
       where
-        both : (k n : ℕ) (i : I) → leb k (g i) && leb n (g i) ≡ leb (higher_of k n) (g i)
+        both : (k n : ℕ) (i : I) → leb k (g i) && leb n (g i) ≡ leb (max k n) (g i)
         both k n i =
-            on (ltb k n)
-            (λ t. rw t (on (leb n (g i)) (λ u. rw (u, le-leb k (g i) (omega (arith, ltb-true k n t, leb-true n (g i) u)))) (λ u. rw u (and_false (leb k (g i))))))
-            (λ t. rw t (on (leb k (g i)) (λ u. rw (u, le-leb n (g i) (omega (arith, ltb-false k n t, leb-true k (g i) u)))) (λ u. rw u)))
+            on (leb k (g i))
+            (λ t. rw t (on (leb n (g i)) (λ u. rw u (sym (le-leb (max k n) (g i) (omega (arith, leb-true k (g i) t, leb-true n (g i) u))))) (λ u. rw u (sym (lt-leb (max k n) (g i) (omega (arith, leb-false n (g i) u)))))))
+            (λ t. rw t (sym (lt-leb (max k n) (g i) (omega (arith, leb-false k (g i) t)))))
 
     -- ids dropped from each element on are those dropped from the lowest on
     pub from_go : (es : List E) (ids : List I) →
         fold (λ (is : List I) (e : E). filter (λ (i : I). ltb (g i) (f e)) is) ids es ≡ kept_by (λ (n : ℕ) (i : I). ltb (g i) n) (lowest_seqno (map f es)) ids
-    from_go es ids = kept_fold (λ (n : ℕ) (i : I). ltb (g i) n) lower_of both f None es ids
+    from_go es ids = kept_fold (λ (n : ℕ) (i : I). ltb (g i) n) min both f es ids
       where
-        both : (k n : ℕ) (i : I) → ltb (g i) k && ltb (g i) n ≡ ltb (g i) (lower_of k n)
+        both : (k n : ℕ) (i : I) → ltb (g i) k && ltb (g i) n ≡ ltb (g i) (min k n)
         both k n i =
-            on (ltb n k)
-            (λ t. rw t (on (ltb (g i) n) (λ u. rw (u, lt-ltb (g i) k (omega (arith, ltb-true n k t, ltb-true (g i) n u)))) (λ u. rw u (and_false (ltb (g i) k)))))
-            (λ t. rw t (on (ltb (g i) k) (λ u. rw (u, lt-ltb (g i) n (omega (arith, ltb-false n k t, ltb-true (g i) k u)))) (λ u. rw u)))
+            on (ltb (g i) k)
+            (λ t. rw t (on (ltb (g i) n) (λ u. rw u (sym (lt-ltb (g i) (min k n) (omega (arith, ltb-true (g i) k t, ltb-true (g i) n u))))) (λ u. rw u (sym (le-ltb (g i) (min k n) (omega (arith, ltb-false (g i) n u)))))))
+            (λ t. rw t (sym (le-ltb (g i) (min k n) (omega (arith, ltb-false (g i) k t)))))

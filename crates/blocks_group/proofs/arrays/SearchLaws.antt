@@ -13,10 +13,10 @@ use lib.Dec.{eqb, ltb}
 use lib.ListN.{get_or, length}
 use Rattle.block_records.proofs.arrays.ArrayLaws.{all_get_d}
 use Rattle.block_records.proofs.arrays.PlaceLaws.{next_place, place_cons}
-use Rattle.block_records.proofs.rules.Tests.{and_left, and_right}
 use Rattle.block_records.specs.arrays.Place.{place}
 use Rattle.block_records.specs.rules.Lists.{rising}
 use Rattle.blocks_group.specs.arrays.Search.{IsPlace, number_below, number_is, seqno_place}
+use Rattle.std.specs.Cmp.{first_so, second_so}
 
 -- ===== the answer by the list's first number =====
 
@@ -39,7 +39,7 @@ right_next n x xs (Err k) l h = (suc-le-suc h.0, below, above)
 
 -- in a rising list all numbers after the first are above it
 above_first : (x : ℕ) (xs : List ℕ) → rising ltb (x ∷ xs) ≡ true → (j : ℕ) → j < length xs → x < get_or xs j 0
-above_first x xs r j h = ltb-true x (get_or xs j 0) (all_get_d (ltb x) xs j 0 (and_left (list_all (ltb x) xs) (rising ltb xs) r) h)
+above_first x xs r j h = ltb-true x (get_or xs j 0) (all_get_d (ltb x) xs j 0 (first_so (list_all (ltb x) xs) (rising ltb xs) r) h)
 
 from_first : (n x : ℕ) (xs : List ℕ) → rising ltb (x ∷ xs) ≡ true → n < x → (j : ℕ) → 0 ≤ j → j < length (x ∷ xs) → n < get_or (x ∷ xs) j 0
 from_first n x xs r l zero a b = l
@@ -48,7 +48,7 @@ from_first n x xs r l (suc j) a b = omega (arith, above_first x xs r j (le_of_su
 pub place_right : (n : ℕ) (xs : List ℕ) → rising ltb xs ≡ true → IsPlace xs n (seqno_place n xs)
 unfolding place
 place_right n [] r = (omega arith, (λ j b. absurd (omega arith)), (λ j a b. absurd (omega arith)))
-place_right n (x ∷ xs) r = rw (seqno_place_cons n x xs) (go (ltb x n) (eqb x n) refl refl (place_right n xs (and_right (list_all (ltb x) xs) (rising ltb xs) r)))
+place_right n (x ∷ xs) r = rw (seqno_place_cons n x xs) (go (ltb x n) (eqb x n) refl refl (place_right n xs (second_so (list_all (ltb x) xs) (rising ltb xs) r)))
   where
     go : (a b : Bool) → ltb x n ≡ a → eqb x n ≡ b → IsPlace xs n (seqno_place n xs) → IsPlace (x ∷ xs) n (cond a (next_place (seqno_place n xs)) (cond b (Ok 0) (Err 0)))
     go true b u v h = right_next n x xs (seqno_place n xs) (ltb-true x n u) h
@@ -67,7 +67,7 @@ place_only n (x ∷ xs) (Ok zero) r h = let l : n ≤ x = omega (arith, h.1) in 
 place_only n (x ∷ xs) (Ok (suc k)) r h =
     let l : x < n = rw h.1 at (above_first x xs r k (le_of_suc-le-suc h.0)) in
     rw (seqno_place_cons n x xs, lt-ltb x n l)
-    (ap next_place (place_only n xs (Ok k) (and_right (list_all (ltb x) xs) (rising ltb xs) r) (le_of_suc-le-suc h.0, h.1)))
+    (ap next_place (place_only n xs (Ok k) (second_so (list_all (ltb x) xs) (rising ltb xs) r) (le_of_suc-le-suc h.0, h.1)))
 place_only n (x ∷ xs) (Err zero) r h =
     let l : n < x = h.2 0 (omega arith) (omega arith) in
     let m : n ≤ x = omega arith in
@@ -75,5 +75,5 @@ place_only n (x ∷ xs) (Err zero) r h =
 place_only n (x ∷ xs) (Err (suc k)) r h =
     rw (seqno_place_cons n x xs, lt-ltb x n (h.1 0 (omega arith)))
     (ap next_place
-    (place_only n xs (Err k) (and_right (list_all (ltb x) xs) (rising ltb xs) r)
+    (place_only n xs (Err k) (second_so (list_all (ltb x) xs) (rising ltb xs) r)
     (le_of_suc-le-suc h.0, (λ j b. h.1 (suc j) (suc-le-suc b)), (λ j a b. h.2 (suc j) (suc-le-suc a) (suc-le-suc b)))))

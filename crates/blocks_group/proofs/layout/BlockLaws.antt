@@ -1,6 +1,7 @@
 -- A block made of an entry of the model has its seqno and its kind; a test of equality decides it; zeros and tidy blocks.
 -- Assumes nothing.
-use Rattle.std.proofs.Common.{◌≡◌, ◌&&◌, Bool, true, false, [], refl, ap, ap₂, sym, ◌∙◌, ltb}
+use Rattle.std.proofs.Math.Bool.{and-true}
+use Rattle.std.proofs.Common.{◌≡◌, ◌&&◌, Bool, [], ap, ap₂, sym, ◌∙◌, ltb}
 use Rattle.block_records.specs.declared.entry.BlockCacheEntry.{BlockCacheEntry}
 use Rattle.block_records.specs.declared.entry.BlockCacheEntryData.{BlockCacheEntryData}
 use Rattle.block_records.proofs.layout.EntryLaws.{view_pack_entry, view_pack_shard_entry}
@@ -16,13 +17,9 @@ use Rattle.blocks_group.specs.rules.Group.{entry_before}
 
 -- ===== a shard's block, beside which no top items stand =====
 
-and_true : (a : Bool) → a ≡ a && true
-and_true true = refl
-and_true false = refl
-
 pub shard_zero : (b : BlockCacheEntry) → is_zero_entry b ≡ is_zero_block shard_parts b
 unfolding zero_tops
-shard_zero b = and_true (is_zero_entry b) ∙ ap (λ (t : Bool). is_zero_entry b && t) (sym (tops_same.same_refl zero_tops))
+shard_zero b = sym (and-true (is_zero_entry b)) ∙ ap (λ (t : Bool). is_zero_entry b && t) (sym (tops_same.same_refl zero_tops))
 
 pub shard_fits : (b : BlockCacheEntry) → entry_tidy b && held_shard_entry_fits b ≡ block_fits shard_parts b
 unfolding zero_tops

@@ -1,31 +1,20 @@
 -- Packing a group and viewing it again gives the group; the tests of equality decide it.
 -- Assumes nothing.
 use Rattle.std.specs.Prelude.{map, eqb}
-use mathlib.Core.List.{List, [], ◌∷◌}
+use mathlib.Core.List.{List, [], ◌∷◌, map-map}
 use mathlib.Core.Path.{◌∙◌, ◌≡◌, ap, ap₂, refl}
-use Prim.Native.Nat.{ℕ}
-use lib.ListN.{length, take}
 use Rattle.blocks_group.specs.declared.group.Group.{Group}
-use Rattle.block_records.proofs.arrays.ArrayLaws.{each_each, take_padded_at}
 use Rattle.block_records.proofs.layout.EqualityLaws.{both_same, key_same, list_same, nat_same, option_same, pair_same}
-use Rattle.block_records.proofs.rules.ListLaws.{length_each}
 use Rattle.block_records.specs.layout.Listed.{listed}
 use Rattle.block_records.specs.rules.BlockId.{same_key}
 use Rattle.block_records.specs.rules.Entry.{Entry}
-use Rattle.block_records.specs.rules.Lists.{padded}
 use Rattle.block_records.specs.rules.Order.{IsSame}
 use Rattle.blocks_group.proofs.layout.BlockLaws.{Kept, block_same, kept_master, kept_shard}
 use Rattle.blocks_group.proofs.rules.GroupLaws.{NoTops}
 use Rattle.blocks_group.specs.layout.Block.{BlockLaws, BlockParts, master_parts, pack_block, shard_parts, view_block, zero_block}
 use Rattle.blocks_group.specs.layout.Group.{pack_group, same_boundary, same_group, same_mark, view_group}
 use Rattle.blocks_group.specs.rules.Group.{GroupModel}
-
-module _ {A B : Type 0} where
-  pub take_padded_each : (n : ℕ) (z : B) (f : A → B) (xs : List A) → take (length xs) (padded n z (map f xs)) ≡ map f xs
-  take_padded_each n z f xs = take_padded_at n z (map f xs) (length xs) (length_each f xs)
-
-  pub listed_packed_each : (n : ℕ) (z : B) (f : A → B) (xs : List A) → take (length (map f xs)) (padded n z (map f xs)) ≡ map f xs
-  listed_packed_each n z f xs = take_padded_at n z (map f xs) (length (map f xs)) refl
+use Rattle.block_records.proofs.layout.EntryLaws.{take_padded}
 
 pub mark_same : IsSame same_mark
 mark_same = option_same eqb nat_same
@@ -49,7 +38,7 @@ all_kept_shards (e ∷ es) h = (kept_shard e h.0, all_kept_shards es h.1)
 module _ {B : Type 0} (k : BlockParts B) where
   -- what is listed in a packed group
   pub listed_packed : (m : GroupModel) → listed (pack_group k m).entries ≡ map (pack_block k) m.entries
-  listed_packed m = listed_packed_each 16 (zero_block k) (pack_block k) m.entries
+  listed_packed m = take_padded 16 (zero_block k) (map (pack_block k) m.entries)
 
   viewed : (es : List Entry) → AllKept k es → map (λ (e : Entry). view_block k (pack_block k e)) es ≡ es
   viewed [] h = refl
@@ -58,7 +47,7 @@ module _ {B : Type 0} (k : BlockParts B) where
   pub view_pack_group : (g : GroupModel) → AllKept k g.entries → view_group k (pack_group k g) ≡ g
   view_pack_group g h =
       let e : map (view_block k) (listed (pack_group k g).entries) ≡ g.entries =
-      ap (map (view_block k)) (listed_packed g) ∙ each_each (view_block k) (pack_block k) g.entries ∙ viewed g.entries h in
+      ap (map (view_block k)) (listed_packed g) ∙ map-map (view_block k) (pack_block k) g.entries ∙ viewed g.entries h in
       λ i. record { entries = e i; mark = g.mark; boundary = g.boundary }
 
   pub group_same : BlockLaws k → IsSame (same_group k)

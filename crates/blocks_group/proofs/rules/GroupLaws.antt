@@ -20,13 +20,15 @@ use Rattle.block_records.specs.declared.top_block.TopBlock.{TopBlock}
 use Rattle.block_records.proofs.rules.BlockIdLaws.{same_shard_true}
 use Rattle.block_records.proofs.rules.Finds.{find_member, find_passes, find_select_none, find_select_same, member_select, select_member}
 use Rattle.block_records.proofs.rules.ListLaws.{by_number, every_member, every_put, every_select, length_put, length_put_same, length_select, rising_put, rising_select}
-use Rattle.block_records.proofs.rules.Tests.{and_intro, and_left, and_right, clash, not_true, on}
+use Rattle.block_records.proofs.rules.Tests.{and_intro, clash, on}
 use Rattle.block_records.specs.rules.BlockId.{id_shard, is_masterchain, key_shard, same_id, same_shard}
 use Rattle.block_records.specs.rules.Entry.{Entry, fresh_collated, fresh_received}
 use Rattle.block_records.specs.rules.Lists.{put, rising}
 use Rattle.block_records.specs.rules.Questions.{entry_fits}
 use Rattle.blocks_group.specs.rules.Group.{GroupModel, at_seqno, changed_entries, entry_before, has_seqno, store_collated_at, store_received_at, with_boundary, with_entries, without}
 use Rattle.blocks_group.specs.rules.Soundness.{boundary_in, fits_in, of_shard, sound_group_model}
+use Rattle.std.proofs.lemmas.Bool.{not-true}
+use Rattle.std.specs.Cmp.{first_so, second_so}
 
 pub record GroupParts (p : ShardIdent → Bool) (g : GroupModel) : Type 0 where
   pub count : leb (length g.entries) 16 ≡ true
@@ -35,7 +37,7 @@ pub record GroupParts (p : ShardIdent → Bool) (g : GroupModel) : Type 0 where
   pub bound : boundary_in p g.boundary ≡ true
 
 pub group_parts : (p : ShardIdent → Bool) (g : GroupModel) → sound_group_model p g ≡ true → GroupParts p g
-group_parts p g h = record { count = search and_left; order = search (and_left, and_right); fit = search (and_left, and_right); bound = search (and_left, and_right) }
+group_parts p g h = record { count = search first_so; order = search (first_so, second_so); fit = search (first_so, second_so); bound = search (first_so, second_so) }
 
 pub group_whole : (p : ShardIdent → Bool) (g : GroupModel) → GroupParts p g → sound_group_model p g ≡ true
 group_whole p g h = and_intro h.count (and_intro h.order (and_intro h.fit h.bound))
@@ -119,12 +121,12 @@ received_fits p z r (Some e) s ok h = on (same_id e.id r.block_id) (λ t. rw t h
 -- in a rising group a member is what is found at its seqno
 pub found_itself : (es : List Entry) {e : Entry} → rising entry_before es ≡ true → Memᴰ e es → at_seqno e.id.seqno es ≡ Some e
 found_itself [] h u = absurd (Memᴰ.not-nil u)
-found_itself (x ∷ es) {e} h u = by (Memᴰ.cases_cons u) (λ (v : Memᴰ e es). found_itself es (and_right (list_all (entry_before x) es) (rising entry_before es) h) v)
+found_itself (x ∷ es) {e} h u = by (Memᴰ.cases_cons u) (λ (v : Memᴰ e es). found_itself es (second_so (list_all (entry_before x) es) (rising entry_before es) h) v)
   where
     by : (e ≡ x) ⊎ Memᴰ e es → (Memᴰ e es → at_seqno e.id.seqno es ≡ Some e) → at_seqno e.id.seqno (x ∷ es) ≡ Some e
     by (inl s) ih = rw s (rw (eq-eqb x.id.seqno x.id.seqno refl))
     by (inr v) ih =
-        let l : x.id.seqno < e.id.seqno = ltb-true x.id.seqno e.id.seqno (every_member (entry_before x) es (and_left (list_all (entry_before x) es) (rising entry_before es) h) v) in
+        let l : x.id.seqno < e.id.seqno = ltb-true x.id.seqno e.id.seqno (every_member (entry_before x) es (first_so (list_all (entry_before x) es) (rising entry_before es) h) v) in
         rw (ne_eqb x.id.seqno e.id.seqno (λ q. omega arith)) (ih v)
 
 pub at_without_same : (n : ℕ) (es : List Entry) → at_seqno n (without n es) ≡ None
@@ -137,7 +139,7 @@ at_without_other n k es d =
 
 pub member_without : (n : ℕ) (es : List Entry) (e : Entry) → Memᴰ e (without n es) ↔ (Memᴰ e es × (e.id.seqno ≢ n))
 member_without n es e = (
-  (λ u. let r = select_member (λ (x : Entry). not (has_seqno n x)) es u in (r.0, eqb-false e.id.seqno n (not_true (eqb e.id.seqno n) r.1))),
+  (λ u. let r = select_member (λ (x : Entry). not (has_seqno n x)) es u in (r.0, eqb-false e.id.seqno n (not-true (eqb e.id.seqno n) r.1))),
   λ r. member_select (λ (x : Entry). not (has_seqno n x)) es r.0 (rw (ne_eqb e.id.seqno n r.1)),
 )
 
@@ -160,17 +162,17 @@ NoTops (e ∷ es) = (e.tops ≡ []) × NoTops es
 pub shard_no_tops : (s : ShardIdent) → is_masterchain s ≡ false → (es : List Entry) → list_all (fits_in (of_shard s)) es ≡ true → NoTops es
 shard_no_tops s m [] h = tt
 shard_no_tops s m (e ∷ es) h =
-    let f : fits_in (of_shard s) e ≡ true = and_left (fits_in (of_shard s) e) (list_all (fits_in (of_shard s)) es) h in
-    let t : same_shard (id_shard e.id) s ≡ true = and_left (same_shard (id_shard e.id) s) (entry_fits e) f in
-    let g : entry_fits e ≡ true = and_right (same_shard (id_shard e.id) s) (entry_fits e) f in
-    let c : is_masterchain (id_shard e.id) || eqb (length e.tops) 0 ≡ true = search (and_left, and_right) in
+    let f : fits_in (of_shard s) e ≡ true = first_so (fits_in (of_shard s) e) (list_all (fits_in (of_shard s)) es) h in
+    let t : same_shard (id_shard e.id) s ≡ true = first_so (same_shard (id_shard e.id) s) (entry_fits e) f in
+    let g : entry_fits e ≡ true = second_so (same_shard (id_shard e.id) s) (entry_fits e) f in
+    let c : is_masterchain (id_shard e.id) || eqb (length e.tops) 0 ≡ true = search (first_so, second_so) in
     let n : is_masterchain (id_shard e.id) ≡ false = rw (same_shard_true (id_shard e.id) s t) m in (
       no_tops e.tops (or_second (is_masterchain (id_shard e.id)) (eqb (length e.tops) 0) c n),
-      shard_no_tops s m es (and_right (fits_in (of_shard s) e) (list_all (fits_in (of_shard s)) es) h),
+      shard_no_tops s m es (second_so (fits_in (of_shard s) e) (list_all (fits_in (of_shard s)) es) h),
     )
 
 pub previous_two : (e : Entry) → entry_fits e ≡ true → length e.previous ≤ 2
-previous_two e h = let l : leb (length e.previous) 2 ≡ true = search (and_left, and_right) in leb-true (length e.previous) 2 l
+previous_two e h = let l : leb (length e.previous) 2 ≡ true = search (first_so, second_so) in leb-true (length e.previous) 2 l
 
 pub tops_eight : (e : Entry) → entry_fits e ≡ true → length e.tops ≤ 8
-tops_eight e h = let l : leb (length e.tops) 8 ≡ true = search (and_left, and_right) in leb-true (length e.tops) 8 l
+tops_eight e h = let l : leb (length e.tops) 8 ≡ true = search (first_so, second_so) in leb-true (length e.tops) 8 l

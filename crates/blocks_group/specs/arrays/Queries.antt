@@ -2,8 +2,9 @@
 -- On a packed group each is what the rules say of the model (proofs/arrays/QueryLaws).
 -- Assumes nothing.
 use Rattle.block_records.specs.declared.block_id.BlockIdShort.{BlockIdShort}
-use Rattle.std.specs.List.{find, fold, list_any}
-use Rattle.std.specs.Prelude.{Bool, ◌&&◌, ◌||◌, false, not, List, ℕ, leb, ltb, Option, None, Some, map, cond, filter}
+use Prim.Native.Nat.{max, min}
+use Rattle.std.specs.List.{find, list_any, reduce}
+use Rattle.std.specs.Prelude.{Bool, ◌&&◌, ◌||◌, false, not, List, ℕ, leb, ltb, Option, None, Some, map, filter}
 use Rattle.blocks_group.specs.declared.group.Group.{Group}
 use Rattle.block_records.specs.layout.Listed.{listed}
 use Rattle.block_records.specs.rules.Entry.{kind_applied, kind_received}
@@ -12,30 +13,13 @@ use Rattle.blocks_group.specs.layout.Block.{BlockParts, block_kind, block_seqno}
 
 -- ===== the highest and the lowest of some seqnos =====
 
--- the higher of two
-abbrev pub higher_of : ℕ → ℕ → ℕ
-higher_of k n = cond (ltb k n) n k
-
--- the lower of two
-abbrev pub lower_of : ℕ → ℕ → ℕ
-lower_of k n = cond (ltb n k) n k
-
--- one number more: the choice between it and that of those before it
-abbrev pub chosen : (ℕ → ℕ → ℕ) → Option ℕ → ℕ → Option ℕ
-chosen choice None n = Some n
-chosen choice (Some k) n = Some (choice k n)
-
--- what the choice leaves of some numbers; absent where there is no number
-abbrev pub chosen_of : (ℕ → ℕ → ℕ) → List ℕ → Option ℕ
-chosen_of choice ns = fold (chosen choice) None ns
-
--- the highest of some numbers
+-- the highest of some numbers; absent where there is none
 abbrev pub highest_seqno : List ℕ → Option ℕ
-highest_seqno ns = chosen_of higher_of ns
+highest_seqno ns = reduce max ns
 
--- the lowest of some numbers
+-- the lowest of some numbers; absent where there is none
 abbrev pub lowest_seqno : List ℕ → Option ℕ
-lowest_seqno ns = chosen_of lower_of ns
+lowest_seqno ns = reduce min ns
 
 module _ {B : Type 0} (k : BlockParts B) where
   -- the seqnos of the listed blocks that pass

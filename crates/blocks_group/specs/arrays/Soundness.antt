@@ -1,10 +1,10 @@
 -- RULES.md, Soundness: of one group, part by part, as the code asks it of the places; proofs/arrays/SoundnessLaws says that it is the same.
 -- Assumes nothing.
 use Rattle.std.specs.List.{list_all}
-use Rattle.std.specs.Prelude.{Bool, ◌&&◌, leb, drop}
+use Rattle.std.specs.Prelude.{Bool, ◌&&◌}
 use Rattle.block_records.specs.declared.block_id.ShardIdent.{ShardIdent}
 use Rattle.blocks_group.specs.declared.group.Group.{Group}
-use Rattle.block_records.specs.layout.Listed.{listed}
+use Rattle.block_records.specs.layout.Listed.{listed, tidy_listed}
 use Rattle.block_records.specs.rules.Limits.{entries_limit}
 use Rattle.block_records.specs.rules.Lists.{rising}
 use Rattle.blocks_group.specs.layout.Block.{BlockParts, block_before, block_fits, block_shard, is_zero_block}
@@ -15,8 +15,8 @@ module _ {B : Type 0} (k : BlockParts B) where
   abbrev pub sound_block : (ShardIdent → Bool) → B → Bool
   sound_block p b = block_fits k b && p (block_shard k b)
 
-  -- The count within the places; each listed block sound; seqnos rise; zeros from the count on; the boundary of the group.
+  -- The count within the places, and zeros from it on; each listed block sound; seqnos rise; the boundary of the group.
   abbrev pub sound_group_by_parts : (ShardIdent → Bool) → Group B → Bool
   sound_group_by_parts p g =
-      leb g.entries.count entries_limit && (list_all (sound_block p) (listed g.entries) && (rising (block_before k) (listed g.entries)
-      && (list_all (is_zero_block k) (drop g.entries.count g.entries.items) && boundary_in p g.boundary)))
+      tidy_listed entries_limit (is_zero_block k) g.entries && (list_all (sound_block p) (listed g.entries)
+      && (rising (block_before k) (listed g.entries) && boundary_in p g.boundary))

@@ -1,10 +1,10 @@
-//! Writes a random script: `scripts SEED CALLS [domain|full|plain]`, or `scripts unsound SEED`.
+//! Writes a random script: `scripts SEED CALLS [domain|full]`, or `scripts unsound SEED`.
 use std::io::Write;
 
 use reading::scripts::{Mode, Script, broken};
 
 fn usage() -> ! {
-    eprintln!("scripts SEED CALLS [domain|full|plain] | scripts unsound SEED");
+    eprintln!("scripts SEED CALLS [domain|full] | scripts unsound SEED");
     std::process::exit(2)
 }
 
@@ -23,7 +23,6 @@ fn main() {
     let mut script = match args.get(2).map(String::as_str) {
         None | Some("domain") => Script::new(seed, calls, Mode::Domain),
         Some("full") => Script::new(seed, calls, Mode::Full),
-        Some("plain") => Script::plain(seed, calls),
         Some(_) => usage(),
     };
     while !script.is_done() {

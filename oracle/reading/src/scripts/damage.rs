@@ -26,7 +26,7 @@ const NUMBERS: &[&[u8]] = &[
     b"18446744073709551616",
     b"100000000000000000000",
 ];
-/// Commands of `scriptreplay` alone.
+/// Commands of `cachereplay` alone.
 const OTHERS: [&[u8]; 3] = [b"help", b"graph", b"explain"];
 
 /// The line with something wrong, at one place mostly.

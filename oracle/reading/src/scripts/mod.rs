@@ -51,13 +51,6 @@ impl Script {
         Script { random: Random::new(seed), mode, replay, lines: vec![], calls: 0, wanted, number: 0, damages, printed: vec![], allowance: 0 }
     }
 
-    /// Of every kind of line, none of them damaged and none that changes how answers are printed: what the landed program reads too.
-    pub fn plain(seed: u64, wanted: u64) -> Script {
-        let mut script = Script::new(seed, wanted, Mode::Full);
-        script.damages = false;
-        script
-    }
-
     pub fn is_done(&self) -> bool {
         self.calls >= self.wanted
     }
@@ -82,7 +75,7 @@ impl Script {
                 self.lend();
             } else if full && self.random.chance(2) {
                 self.broken_calls(&mut scene);
-            } else if full && self.damages && self.random.chance(3) {
+            } else if full && self.random.chance(3) {
                 self.setting();
             } else {
                 let request = scene.request(self);

@@ -1,21 +1,16 @@
-use Rattle.std.proofs.Common.{◌≡◌, length, arith, rules}
+use Rattle.std.proofs.Common.{◌≡◌, List, length, sym, ap, ◌∙◌, rules}
 use Rattle.block_records.proofs.arrays.LoopLaws.{length_mapped}
+use Rattle.block_records.specs.declared.block_id.BlockId.{BlockId}
+use Rattle.block_records.specs.layout.Entry.{pack_prev_ids}
 use Rattle.block_records.specs.rules.BlockId.{listed_prev_ids}
-use Rattle.blocks_cache.proofs.arrays.TailWalkLaws.{added_is, fresh_within, queue_prints, still_queue}
+use Rattle.blocks_cache.specs.arrays.TailIds.{fresh_ids}
+use Rattle.blocks_cache.proofs.arrays.TailQueueLaws.{still_queue}
 use Rattle.blocks_cache.proofs.tail_ids.TailQueue.add.Goals as goal
 
-pub next_ids-fresh-requires : goal.next_ids-fresh-requires
-next_ids-fresh-requires c = queue_prints c.args.self.now c.requires
-
-pub overflow_add-self-2 : goal.overflow_add-self-2
-overflow_add-self-2 c = omega (arith, fresh_within c.args.self.now c.requires (listed_prev_ids c.args.prev) c.next_ids-fresh.result c.next_ids-fresh.ensures)
-
-pub returns-clause-ids : goal.returns-clause-ids
-returns-clause-ids c =
+pub invariant_of-self : goal.invariant_of-self
+invariant_of-self c =
+    let q = c.self.inside in
+    let ps = listed_prev_ids c.args.prev in
+    let of_fresh = c.next_ids-fresh.ensures ∙ ap (λ (ids : List BlockId). pack_prev_ids (fresh_ids ids ps)) (sym c.self.view_is) in
     let two : length c.next_ids-fresh.result.items ≡ 2 = search (rules, length_mapped) in
-    added_is c.args.self.now c.requires (listed_prev_ids c.args.prev) c.next_ids-fresh.result c.next_ids-fresh.ensures two _ _ _ _ c.fingerprint.ensures c.fingerprint-2.ensures
-
-pub returns-clause-queue : goal.returns-clause-queue
-returns-clause-queue c =
-    let two : length c.next_ids-fresh.result.items ≡ 2 = search (rules, length_mapped) in
-    still_queue c.args.self.now c.requires (listed_prev_ids c.args.prev) c.next_ids-fresh.result c.next_ids-fresh.ensures two _ _ _ _ c.fingerprint.ensures c.fingerprint-2.ensures
+    still_queue q.ids q.fingerprints q.count c.self.invariant ps c.next_ids-fresh.result of_fresh two _ _ _ _ c.fingerprint.ensures c.fingerprint-2.ensures

@@ -5,12 +5,12 @@ use Prim.Native.Nat.{◌<◌}
 use lib.ListN.{length}
 use Rattle.std.specs.Ordering.{nat_cmp}
 use Rattle.std.specs.Prelude.{Err, Ok, Some, map}
-use Rattle.block_records.proofs.arrays.ArrayLaws.{get_d_any}
 use Rattle.blocks_group.proofs.arrays.LookupLaws.{searched}
 use Rattle.blocks_group.specs.arrays.Group.{found_at}
 use Rattle.blocks_group.specs.arrays.Search.{seqno_place}
 use Rattle.blocks_group.specs.layout.Block.{block_seqno, zero_block}
 use Rattle.blocks_group.proofs.group.Group.at.Goals as goal
+use Rattle.std.proofs.lemmas.List.{get_or_default}
 
 pub returns-in-Ok : goal.returns-in-Ok
 returns-in-Ok g c =
@@ -20,7 +20,7 @@ returns-in-Ok g c =
     let at : Ok c.in-Ok.at ≡ seqno_place n (map (block_seqno k) xs) =
     sym c.in-Ok.is ∙ c.place_by.ensures.place (λ x. nat_cmp (block_seqno k x) n) (search rules) ∙ searched (block_seqno k) n xs in
     let within : c.in-Ok.at < length xs = rw c.in-Ok.is at c.place_by.ensures.within in
-    ap Some (c.index-blocks-at.is ∙ get_d_any xs c.in-Ok.at _ (zero_block k) within)
+    ap Some (c.index-blocks-at.is ∙ get_or_default xs c.in-Ok.at _ (zero_block k) within)
     ∙ ap (found_at (zero_block k) xs) at
     ∙ ap (λ ys. found_at (zero_block k) ys (seqno_place n (map (block_seqno k) ys))) c.listed-blocks.ensures
 
