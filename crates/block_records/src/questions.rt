@@ -9,7 +9,7 @@ use crate::block_id::{BlockId, BlockIdShort};
 use crate::entry::BlockCacheEntry;
 use crate::limits::{KEYS_LIMIT, PREV_IDS_LIMIT, TOPS_LIMIT};
 use crate::store_records::{BlockCandidate, Keys, PrevIds, ReceivedBlock};
-use crate::top_block::{TopBlock, TopBlocks, zero_tops};
+use crate::top_block::{TopBlock, TopBlocks};
 use std::fmt;
 
 // Why a call is refused: the first question whose answer is no, by its number.
@@ -203,9 +203,15 @@ pub fn held_entry_fits(entry: BlockCacheEntry, tops: TopBlocks) -> bool
     check_record(entry.block_id, entry.ref_by_mc_seqno, entry.prev_ids, tops).is_ok()
 }
 
-// The same of a shard's entry, beside which no top items stand.
+// The same of a shard's entry, beside which no top items stand: no list of none is made to ask it.
+#[tactic(auto, unfolding(crate::specs::layout::Questions::held_entry_fits, crate::specs::layout::Zeros::zero_tops))]
 pub fn held_shard_entry_fits(entry: BlockCacheEntry) -> bool
     ensures { result ≡ held_shard_entry_fits entry }
 {
-    held_entry_fits(entry, zero_tops())
+    let id = id_fits(entry.block_id);
+    let reference = seqno_fits(entry.ref_by_mc_seqno);
+    let previous = prev_ids_fit(entry.prev_ids);
+    let few = entry.prev_ids.count <= PREV_IDS_LIMIT;
+    let links = prev_links_fit(entry.block_id, entry.prev_ids);
+    id & (reference & (previous & (few & links)))
 }

@@ -1,4 +1,3 @@
-pub mod CheckLaws
 pub mod CollectionLaws
 pub mod MasterDataLaws
 pub mod ShardsLaws

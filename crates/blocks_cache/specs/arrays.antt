@@ -1,4 +1,3 @@
-pub mod Cache
 pub mod MasterData
 pub mod Shards
 pub mod Stores

@@ -8,6 +8,7 @@ ghost use Rattle.blocks_cache.specs.layout.Cache.{is_zero_shard_group, shard_gro
 use crate::cache::{Cache, ShardGroup, Shards};
 use crate::master_data::sound_range;
 use block_records::block_id::zero_shard;
+use blocks_group::soundness::{sound_group, sound_master_group};
 
 // ===== shard groups =====
 
@@ -25,7 +26,7 @@ fn sound_shard_group(held: &ShardGroup) -> bool
 {
     let own = held.shard;
     let outside = !own.is_masterchain();
-    let sound = held.group.is_sound(|shard| shard == own);
+    let sound = sound_group(&held.group, own);
     outside & sound
 }
 
@@ -58,7 +59,7 @@ impl Cache {
     pub fn is_sound(&self) -> bool
         ensures { result ≡ sound_cache self.now }
     {
-        let masters = self.masters.is_sound(|shard| shard.is_masterchain());
+        let masters = sound_master_group(&self.masters);
         let range = sound_range(self.masters.mark, self.data.range);
         let ids = self.data.sound_ids();
         let shards = sound_shards(&self.shards);

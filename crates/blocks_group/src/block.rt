@@ -1,12 +1,16 @@
 // RULES.md, Entries: what a group's blocks are: an entry each, beside which a master block has its top items; a shard block has none.
 ghost use Rattle.std.specs.Prelude.{◌≡◌};
+ghost use Rattle.block_records.specs.layout.Entry.{pack_entry, stored_tops};
+ghost use Rattle.block_records.specs.rules.Entry.{fresh_collated, fresh_received};
 ghost use Rattle.blocks_group.specs.layout.Block.{BlockLaws, BlockParts, block_fits, block_seqno, is_zero_block, master_laws, master_parts, shard_laws, shard_parts, with_block_data, zero_block};
 
 use block_records::entry::{
-    BlockCacheEntry, BlockCacheEntryData, MasterBlock, entry_tidy, is_zero_entry, with_data,
+    BlockCacheEntry, BlockCacheEntryData, MasterBlock, entry_tidy, fresh_collated,
+    fresh_collated_master, fresh_received, fresh_received_master, is_zero_entry, with_data,
     zero_entry,
 };
 use block_records::questions::{held_entry_fits, held_shard_entry_fits};
+use block_records::store_records::{BlockCandidate, ReceivedBlock};
 use block_records::top_block::{TopBlocks, is_zero_tops, tops_tidy, zero_tops};
 
 // A block of a group, by its parts.
@@ -16,6 +20,13 @@ pub trait Block: Copy {
     // An entry, with its top items beside it where the type has them.
     fn of(entry: BlockCacheEntry, tops: TopBlocks) -> Self
         ensures { result ≡ parts.of entry tops };
+
+    // What a candidate becomes, and what a received record does.
+    fn fresh_collated(c: BlockCandidate) -> Self
+        ensures { result ≡ parts.of (pack_entry (fresh_collated c)) (stored_tops c.top_blocks) };
+
+    fn fresh_received(zerostate: u32, r: ReceivedBlock) -> Self
+        ensures { result ≡ parts.of (pack_entry (fresh_received zerostate r)) (stored_tops r.top_blocks) };
 
     fn entry(&self) -> &BlockCacheEntry
         ensures { result.now ≡ parts.entry self.now };
@@ -49,6 +60,14 @@ impl Block for BlockCacheEntry {
         entry
     }
 
+    fn fresh_collated(c: BlockCandidate) -> Self {
+        fresh_collated(c)
+    }
+
+    fn fresh_received(zerostate: u32, r: ReceivedBlock) -> Self {
+        fresh_received(zerostate, r)
+    }
+
     fn entry(&self) -> &BlockCacheEntry {
         self
     }
@@ -75,6 +94,14 @@ impl Block for MasterBlock {
 
     fn of(entry: BlockCacheEntry, tops: TopBlocks) -> Self {
         MasterBlock { entry, tops }
+    }
+
+    fn fresh_collated(c: BlockCandidate) -> Self {
+        fresh_collated_master(c)
+    }
+
+    fn fresh_received(zerostate: u32, r: ReceivedBlock) -> Self {
+        fresh_received_master(zerostate, r)
     }
 
     fn entry(&self) -> &BlockCacheEntry {

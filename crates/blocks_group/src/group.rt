@@ -1,6 +1,8 @@
 // RULES.md, Groups: the blocks of a shard or of the masterchain by seqno, in 16 places.
-ghost use Rattle.std.specs.Prelude.{◌≡◌};
-ghost use Rattle.blocks_group.specs.arrays.Group.{block_at, put_block, refresh_group, without_block};
+ghost use Rattle.std.specs.Prelude.{◌≡◌, length};
+ghost use Rattle.block_records.specs.arrays.Place.{IsWithin};
+ghost use Rattle.block_records.specs.layout.Listed.{listed};
+ghost use Rattle.blocks_group.specs.arrays.Group.{block_at, place_of_seqno, put_block, refresh_group, without_block};
 ghost use Rattle.blocks_group.specs.layout.Group.{check_mark, held_empty_group};
 
 use crate::block::{Block, zero_block};
@@ -37,12 +39,20 @@ impl<B: Block> Group<B> {
         }
     }
 
+    // Where the block of a seqno stands among the listed ones, or the place where it would go in.
+    pub fn place_of_seqno(&self, seqno: u32) -> Result<usize, usize>
+        ensures place { result ≡ place_of_seqno B.parts seqno self.now }
+        ensures within { IsWithin (length (listed self.now.entries)) result }
+    {
+        place_by(self.entries.listed(), |block| block.seqno().cmp(&seqno))
+    }
+
     // The block at a seqno.
     pub fn at(&self, seqno: u32) -> Option<B>
         ensures { result ≡ block_at B.parts seqno self.now }
     {
         let blocks = self.entries.listed();
-        match place_by(blocks, |block| block.seqno().cmp(&seqno)) {
+        match self.place_of_seqno(seqno) {
             Ok(at) => Some(blocks[at]),
             Err(_) => None,
         }
@@ -79,10 +89,9 @@ impl<B: Copy> Group<B> {
     pub fn refreshed(&self, seqno: u32) -> Self
         ensures { result ≡ refresh_group seqno self.now }
     {
-        Group {
-            mark: check_mark(self.mark, seqno).mark,
-            ..*self
-        }
+        let mut group = *self;
+        group.check_refresh_last_known_synced(seqno);
+        group
     }
 
     // The mark's rule in a lent group; the mark that it gives is the answer.

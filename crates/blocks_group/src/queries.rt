@@ -1,12 +1,31 @@
 // RULES.md, Pop, Peek, Boundary and collection and Removal of collated blocks: what they ask of one group.
 ghost use Rattle.std.specs.Prelude.{◌≡◌};
-ghost use Rattle.blocks_group.specs.arrays.Queries.{any_applied_above, collect_group, first_applied_block, highest_below_boundary, lowest_collated_above, remove_collated_above};
+ghost use Rattle.block_records.specs.layout.Listed.{listed};
+ghost use Rattle.blocks_group.specs.arrays.Group.{found_at};
+ghost use Rattle.blocks_group.specs.arrays.Queries.{any_applied_above, collect_group, first_applied_block, first_applied_place, highest_below_boundary, lowest_collated_above, remove_collated_above};
+ghost use Rattle.blocks_group.specs.layout.Block.{zero_block};
 
 use crate::block::{Block, zero_block};
 use crate::group::Group;
 use block_records::entry::{held_applied, held_received};
+use block_records::listed::place_by;
+use std::cmp::Ordering;
 
 impl<B: Block> Group<B> {
+    // Where the first applied block from a seqno on stands, or how many are listed if there is none.
+    pub fn first_applied_place(&self, from: u32) -> Result<usize, usize>
+        ensures place { result ≡ first_applied_place B.parts from self.now }
+        ensures block { found_at (zero_block B.parts) (listed self.now.entries) result ≡ first_applied_block B.parts from self.now }
+    {
+        place_by(self.entries.listed(), |block| {
+            if from <= block.seqno() && held_applied(*block.entry()) {
+                Ordering::Equal
+            } else {
+                Ordering::Less
+            }
+        })
+    }
+
     // The first applied block from a seqno on.
     pub fn first_applied(&self, from: u32) -> Option<B>
         ensures { result ≡ first_applied_block B.parts from self.now }

@@ -4,12 +4,12 @@ ghost use Rattle.std.specs.Prelude.{◌≡◌, Bool};
 ghost use Rattle.block_records.specs.declared.block_id.ShardIdent.{ShardIdent as Shard};
 ghost use Rattle.block_records.specs.rules.Lists.{rising};
 ghost use Rattle.blocks_group.specs.arrays.Soundness.{sound_block};
-ghost use Rattle.blocks_group.specs.layout.Block.{block_before};
-ghost use Rattle.blocks_group.specs.layout.Group.{is_empty_group, sound_group};
-ghost use Rattle.blocks_group.specs.rules.Soundness.{boundary_in};
+ghost use Rattle.blocks_group.specs.layout.Block.{block_before, shard_parts};
+ghost use Rattle.blocks_group.specs.layout.Group.{is_empty_group, sound_group, sound_master_group};
+ghost use Rattle.blocks_group.specs.rules.Soundness.{boundary_in, of_shard};
 
 use crate::block::Block;
-use crate::group::Group;
+use crate::group::{Group, MasterGroup, ShardBlocks};
 use block_records::block_id::{BlockIdShort, ShardIdent};
 
 // Whether each block's seqno is above that of the one before it.
@@ -68,4 +68,20 @@ impl<B: Block> Group<B> {
         let bound = boundary_in(self.boundary, &is_for);
         tidy & (sound & (rise & bound))
     }
+}
+
+// ===== the same of the two groups that there are, which asks nothing of the caller =====
+
+// Of a shard's group.
+pub fn sound_group(group: &ShardBlocks, shard: ShardIdent) -> bool
+    ensures { result ≡ sound_group shard_parts (of_shard shard) group.now }
+{
+    group.is_sound(|own| own == shard)
+}
+
+// Of the master group.
+pub fn sound_master_group(masters: &MasterGroup) -> bool
+    ensures { result ≡ sound_master_group masters.now }
+{
+    masters.is_sound(|shard| shard.is_masterchain())
 }

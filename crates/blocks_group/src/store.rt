@@ -7,12 +7,9 @@ ghost use Rattle.blocks_group.specs.rules.Group.{collated_kind, received_kind};
 use crate::block::Block;
 use crate::group::Group;
 use crate::mark::known_synced;
-use block_records::entry::{
-    BlockCacheEntryData, CandidateStatus, fresh_collated, fresh_received, held_received,
-};
+use block_records::entry::{BlockCacheEntryData, CandidateStatus, held_received};
 use block_records::questions::Refusal;
 use block_records::store_records::{BlockCandidate, ReceivedBlock};
-use block_records::top_block::stored_tops;
 
 // An Option would be no plainer: Synced is an answer with a name of its own.
 #[derive(Clone, Copy, Debug, PartialEq, Eq)]
@@ -111,7 +108,7 @@ impl<B: Block> Group<B> {
         ensures { result ≡ collated_step B.parts c (has_place self.now) (block_at B.parts c.block_id.seqno self.now) }
     {
         let Some(block) = self.at(c.block_id.seqno) else {
-            return self.fresh_step(B::of(fresh_collated(c), stored_tops(c.top_blocks)));
+            return self.fresh_step(B::fresh_collated(c));
         };
         let entry = block.entry();
         if !held_received(*entry) {
@@ -129,7 +126,7 @@ impl<B: Block> Group<B> {
     fn received_step(&self, zerostate: u32, r: ReceivedBlock) -> Result<StoreStep<B>, Refusal>
         ensures { result ≡ received_step B.parts zerostate r (has_place self.now) (block_at B.parts r.block_id.seqno self.now) }
     {
-        let fresh = B::of(fresh_received(zerostate, r), stored_tops(r.top_blocks));
+        let fresh = B::fresh_received(zerostate, r);
         let Some(block) = self.at(r.block_id.seqno) else {
             return self.fresh_step(fresh);
         };

@@ -6,7 +6,7 @@ mod clock;
 mod run;
 mod timed;
 
-use replay_calls::state::State;
+use replay_calls::state::Session;
 use replay_text::input::Input;
 use replay_text::output::Output;
 use run::run_script;
@@ -17,7 +17,7 @@ fn main(rt: HostRuntime) {
     let mut printed = io::large_buffer();
     let mut script = rt.stdin();
     let mut input = Input::new(&mut script, &mut buffer, &mut line);
-    let mut state = State::new(Output::new(&mut printed));
-    run_script(rt, &mut input, &mut state);
-    state.out.flush();
+    let mut session = Session::new(Output::new(&mut printed));
+    run_script(rt, &mut input, &mut session);
+    session.out.flush();
 }

@@ -6,7 +6,7 @@ use block_records::questions::Refusal;
 use blocks_cache::cache::Cache;
 use replay_calls::answers::{Extracted, Peeked, Stored, Tails, Validated, sound_answer};
 use replay_calls::calls::{make, validation_status};
-use replay_calls::state::State;
+use replay_calls::state::Session;
 use replay_text::commands::Call;
 use std::fmt;
 use std::time::Duration;
@@ -42,20 +42,20 @@ impl Timer {
     // The answer, and the line about a timed call.
     fn answer<D: fmt::Display + Drop>(
         self,
-        state: &mut State<'_>,
+        session: &mut Session<'_>,
         answer: Result<D, Refusal>,
         spent: Duration,
     ) {
-        state.answer(answer);
+        session.answer(answer);
         if let Some(times) = self.times {
             let spent = spent.as_micros();
-            state.print(format_args!("time {times} calls {spent} microseconds"));
+            session.print(format_args!("time {times} calls {spent} microseconds"));
         }
     }
 }
 
 // A call that changes the cache is made each time on the cache as it was given: that copy is timed with it.
-fn run_store(timer: Timer, state: &mut State<'_>, cache: &mut Cache, call: &Call) {
+fn run_store(timer: Timer, session: &mut Session<'_>, cache: &mut Cache, call: &Call) {
     let given = *cache;
     match *call {
         Call::StoreCollated(candidate) => {
@@ -64,7 +64,7 @@ fn run_store(timer: Timer, state: &mut State<'_>, cache: &mut Cache, call: &Call
                 cache.store_collated(candidate)
             });
             timer.answer(
-                state,
+                session,
                 timed.answer.map(|stored| Stored(stored)),
                 timed.spent,
             );
@@ -75,7 +75,7 @@ fn run_store(timer: Timer, state: &mut State<'_>, cache: &mut Cache, call: &Call
                 cache.store_received(block)
             });
             timer.answer(
-                state,
+                session,
                 timed.answer.map(|stored| Stored(stored)),
                 timed.spent,
             );
@@ -87,7 +87,7 @@ fn run_store(timer: Timer, state: &mut State<'_>, cache: &mut Cache, call: &Call
                 cache.store_master_block_validation_result(id, status)
             });
             timer.answer(
-                state,
+                session,
                 timed.answer.map(|validated| Validated(validated)),
                 timed.spent,
             );
@@ -96,7 +96,7 @@ fn run_store(timer: Timer, state: &mut State<'_>, cache: &mut Cache, call: &Call
     }
 }
 
-fn run_collection(timer: Timer, state: &mut State<'_>, cache: &mut Cache, call: &Call) {
+fn run_collection(timer: Timer, session: &mut Session<'_>, cache: &mut Cache, call: &Call) {
     let given = *cache;
     let timed = match *call {
         Call::Boundary(keys) => timer.time(|| {
@@ -113,10 +113,10 @@ fn run_collection(timer: Timer, state: &mut State<'_>, cache: &mut Cache, call: 
         }),
         _ => return,
     };
-    timer.answer(state, timed.answer.map(|_| "done"), timed.spent);
+    timer.answer(session, timed.answer.map(|_| "done"), timed.spent);
 }
 
-fn run_extraction(timer: Timer, state: &mut State<'_>, cache: &mut Cache, call: &Call) {
+fn run_extraction(timer: Timer, session: &mut Session<'_>, cache: &mut Cache, call: &Call) {
     let given = *cache;
     let mut blocks = [zero_entry(); ARRAY_PLACES];
     let timed = match *call {
@@ -132,23 +132,27 @@ fn run_extraction(timer: Timer, state: &mut State<'_>, cache: &mut Cache, call: 
     };
     let blocks: &[BlockCacheEntry] = &blocks;
     let answer = timed.answer.map(|extract| Extracted { extract, blocks });
-    timer.answer(state, answer, timed.spent);
+    timer.answer(session, answer, timed.spent);
 }
 
 // What leaves the cache as it is.
-fn run_look(timer: Timer, state: &mut State<'_>, cache: &Cache, call: &Call) {
+fn run_look(timer: Timer, session: &mut Session<'_>, cache: &Cache, call: &Call) {
     match *call {
         Call::Peek(from) => {
             let timed = timer.time(|| cache.peek_front_applied_mc_block_subgraph(from));
-            timer.answer(state, timed.answer.map(|found| Peeked(found)), timed.spent);
+            timer.answer(
+                session,
+                timed.answer.map(|found| Peeked(found)),
+                timed.spent,
+            );
         }
         Call::TailIds(key) => {
             let timed = timer.time(|| cache.read_before_tail_ids_of_mc_block(key));
-            timer.answer(state, timed.answer.map(|rows| Tails(rows)), timed.spent);
+            timer.answer(session, timed.answer.map(|rows| Tails(rows)), timed.spent);
         }
         Call::Sound => {
             let timed = timer.time(|| cache.is_sound());
-            timer.answer(state, Ok(sound_answer(timed.answer)), timed.spent);
+            timer.answer(session, Ok(sound_answer(timed.answer)), timed.spent);
         }
         _ => {}
     }
@@ -156,14 +160,14 @@ fn run_look(timer: Timer, state: &mut State<'_>, cache: &Cache, call: &Call) {
 
 // A new cache is made once, and not timed. Each kind of answer has a function of its own, which chooses among its calls once more: a closure that is handed
 // on to another did not prove.
-pub fn run_call(timer: Timer, state: &mut State<'_>, cache: &mut Cache, call: &Call) {
+pub fn run_call(timer: Timer, session: &mut Session<'_>, cache: &mut Cache, call: &Call) {
     match call {
-        Call::New(zerostate) => make(state, cache, *zerostate),
-        Call::Pop(_) | Call::Sync(_) => run_extraction(timer, state, cache, call),
-        Call::Peek(_) | Call::TailIds(_) | Call::Sound => run_look(timer, state, cache, call),
+        Call::New(zerostate) => make(session, cache, *zerostate),
+        Call::Pop(_) | Call::Sync(_) => run_extraction(timer, session, cache, call),
+        Call::Peek(_) | Call::TailIds(_) | Call::Sound => run_look(timer, session, cache, call),
         Call::Boundary(_) | Call::RemoveNext(_) | Call::Collect => {
-            run_collection(timer, state, cache, call);
+            run_collection(timer, session, cache, call);
         }
-        _ => run_store(timer, state, cache, call),
+        _ => run_store(timer, session, cache, call),
     }
 }

@@ -6,7 +6,7 @@ mod report;
 mod run;
 
 use options::{Source, open_source};
-use replay_calls::state::State;
+use replay_calls::state::Session;
 use replay_text::input::Input;
 use replay_text::output::Output;
 use report::report;
@@ -18,9 +18,9 @@ fn replay<R: Read>(rt: HostRuntime, source: &mut R) {
     let mut line = [0u8; 8192];
     let mut printed = [0u8; 16384];
     let mut input = Input::new(source, &mut buffer, &mut line);
-    let mut state = State::new(Output::new(&mut printed));
-    run_script(&mut input, &mut state);
-    report(rt, input.error(), &mut state);
+    let mut session = Session::new(Output::new(&mut printed));
+    run_script(&mut input, &mut session);
+    report(rt, input.error(), &mut session);
 }
 
 fn main(rt: HostRuntime) {

@@ -4,7 +4,7 @@ use crate::tally::Tally;
 use block_records::block_id::is_zero_id;
 use block_records::entry::{
     BlockCacheEntry, BlockCacheEntryData, CandidateStatus, entry_tidy, fresh_collated,
-    fresh_collated_master, fresh_received, held_applied, held_received, is_zero_entry,
+    fresh_collated_master, fresh_received, held_applied, held_received, is_zero_entry, kind_number,
     status_number, with_data, zero_entry,
 };
 use block_records::store_records::{BlockCandidate, PrevIds, ReceivedBlock, zero_prev_ids};
@@ -100,7 +100,7 @@ fn applied(tally: &mut Tally) {
         held_applied(yes),
         !held_applied(collated(false)),
         !held_received(yes),
-        matches!(yes.data, BlockCacheEntryData::Collated { .. }),
+        kind_number(yes.data) == 0,
     ]);
 }
 

@@ -1,6 +1,6 @@
 // The calls, made on the cache, and their answers.
 use crate::answers::{Extracted, Peeked, Stored, Tails, Validated, sound_answer};
-use crate::state::State;
+use crate::state::Session;
 use block_records::block_id::{BlockId, BlockIdShort};
 use block_records::entry::BlockCacheEntry;
 use block_records::limits::ARRAY_PLACES;
@@ -17,24 +17,24 @@ pub type Blocks = [BlockCacheEntry; ARRAY_PLACES];
 
 // Where the seqno is refused, the cache stays.
 #[inline(never)]
-pub fn make(state: &mut State<'_>, cache: &mut Cache, zerostate: u32) {
+pub fn make(session: &mut Session<'_>, cache: &mut Cache, zerostate: u32) {
     let new = empty(zerostate);
     if new.answer.is_ok() {
         *cache = new.cache;
     }
-    state.answer(new.answer.map(|_| "made"));
+    session.answer(new.answer.map(|_| "made"));
 }
 
 #[inline(never)]
-fn collated(state: &mut State<'_>, cache: &mut Cache, candidate: &BlockCandidate) {
+fn collated(session: &mut Session<'_>, cache: &mut Cache, candidate: &BlockCandidate) {
     let answer = cache.store_collated(*candidate);
-    state.answer(answer.map(|stored| Stored(stored)));
+    session.answer(answer.map(|stored| Stored(stored)));
 }
 
 #[inline(never)]
-fn received(state: &mut State<'_>, cache: &mut Cache, block: &ReceivedBlock) {
+fn received(session: &mut Session<'_>, cache: &mut Cache, block: &ReceivedBlock) {
     let answer = cache.store_received(*block);
-    state.answer(answer.map(|stored| Stored(stored)));
+    session.answer(answer.map(|stored| Stored(stored)));
 }
 
 pub fn validation_status(verdict: Verdict) -> ValidationStatus {
@@ -51,74 +51,74 @@ pub fn validation_status(verdict: Verdict) -> ValidationStatus {
 }
 
 #[inline(never)]
-fn validate(state: &mut State<'_>, cache: &mut Cache, id: BlockId, verdict: Verdict) {
+fn validate(session: &mut Session<'_>, cache: &mut Cache, id: BlockId, verdict: Verdict) {
     let answer = cache.store_master_block_validation_result(id, validation_status(verdict));
-    state.answer(answer.map(|validated| Validated(validated)));
+    session.answer(answer.map(|validated| Validated(validated)));
 }
 
 #[inline(never)]
-fn set_boundary(state: &mut State<'_>, cache: &mut Cache, keys: &Keys) {
-    state.answer(cache.set_gc_to_boundary(*keys).map(|_| "done"));
+fn set_boundary(session: &mut Session<'_>, cache: &mut Cache, keys: &Keys) {
+    session.answer(cache.set_gc_to_boundary(*keys).map(|_| "done"));
 }
 
 #[inline(never)]
-fn collect(state: &mut State<'_>, cache: &mut Cache) {
-    state.answer(cache.gc_prev_blocks().map(|_| "done"));
+fn collect(session: &mut Session<'_>, cache: &mut Cache) {
+    session.answer(cache.gc_prev_blocks().map(|_| "done"));
 }
 
 #[inline(never)]
-fn remove_next(state: &mut State<'_>, cache: &mut Cache, keys: &Keys) {
+fn remove_next(session: &mut Session<'_>, cache: &mut Cache, keys: &Keys) {
     let answer = cache.remove_next_collated_blocks_from_cache(*keys);
-    state.answer(answer.map(|_| "done"));
+    session.answer(answer.map(|_| "done"));
 }
 
-fn extracted(state: &mut State<'_>, blocks: &Blocks, answer: Result<SubgraphExtract, Refusal>) {
-    state.answer(answer.map(|extract| Extracted { extract, blocks }));
-}
-
-#[inline(never)]
-fn pop(state: &mut State<'_>, cache: &mut Cache, blocks: &mut Blocks, from: u32) {
-    let answer = cache.pop_to_array(from, blocks, state.places);
-    extracted(state, blocks, answer);
+fn extracted(session: &mut Session<'_>, blocks: &Blocks, answer: Result<SubgraphExtract, Refusal>) {
+    session.answer(answer.map(|extract| Extracted { extract, blocks }));
 }
 
 #[inline(never)]
-fn sync(state: &mut State<'_>, cache: &mut Cache, blocks: &mut Blocks, id: BlockId) {
-    let answer = cache.sync_to_array(id, blocks, state.places);
-    extracted(state, blocks, answer);
+fn pop(session: &mut Session<'_>, cache: &mut Cache, blocks: &mut Blocks, from: u32) {
+    let answer = cache.pop_to_array(from, blocks, session.state.places);
+    extracted(session, blocks, answer);
 }
 
 #[inline(never)]
-fn peek(state: &mut State<'_>, cache: &Cache, from: u32) {
+fn sync(session: &mut Session<'_>, cache: &mut Cache, blocks: &mut Blocks, id: BlockId) {
+    let answer = cache.sync_to_array(id, blocks, session.state.places);
+    extracted(session, blocks, answer);
+}
+
+#[inline(never)]
+fn peek(session: &mut Session<'_>, cache: &Cache, from: u32) {
     let answer = cache.peek_front_applied_mc_block_subgraph(from);
-    state.answer(answer.map(|found| Peeked(found)));
+    session.answer(answer.map(|found| Peeked(found)));
 }
 
 #[inline(never)]
-fn tail_ids(state: &mut State<'_>, cache: &Cache, key: BlockIdShort) {
+fn tail_ids(session: &mut Session<'_>, cache: &Cache, key: BlockIdShort) {
     let answer = cache.read_before_tail_ids_of_mc_block(key);
-    state.answer(answer.map(|rows| Tails(rows)));
+    session.answer(answer.map(|rows| Tails(rows)));
 }
 
 #[inline(never)]
-fn sound(state: &mut State<'_>, cache: &Cache) {
-    state.answer(Ok(sound_answer(cache.is_sound())));
+fn sound(session: &mut Session<'_>, cache: &Cache) {
+    session.answer(Ok(sound_answer(cache.is_sound())));
 }
 
 // A function pays at entry for the size of its locals: each call stands in one of its own, out of line.
-pub fn run_call(state: &mut State<'_>, cache: &mut Cache, blocks: &mut Blocks, call: &Call) {
+pub fn run_call(session: &mut Session<'_>, cache: &mut Cache, blocks: &mut Blocks, call: &Call) {
     match call {
-        Call::StoreCollated(candidate) => collated(state, cache, candidate),
-        Call::StoreReceived(block) => received(state, cache, block),
-        Call::Validation(id, verdict) => validate(state, cache, *id, *verdict),
-        Call::Boundary(keys) => set_boundary(state, cache, keys),
-        Call::Collect => collect(state, cache),
-        Call::RemoveNext(keys) => remove_next(state, cache, keys),
-        Call::New(zerostate) => make(state, cache, *zerostate),
-        Call::Pop(from) => pop(state, cache, blocks, *from),
-        Call::Sync(id) => sync(state, cache, blocks, *id),
-        Call::Peek(from) => peek(state, cache, *from),
-        Call::TailIds(key) => tail_ids(state, cache, *key),
-        Call::Sound => sound(state, cache),
+        Call::StoreCollated(candidate) => collated(session, cache, candidate),
+        Call::StoreReceived(block) => received(session, cache, block),
+        Call::Validation(id, verdict) => validate(session, cache, *id, *verdict),
+        Call::Boundary(keys) => set_boundary(session, cache, keys),
+        Call::Collect => collect(session, cache),
+        Call::RemoveNext(keys) => remove_next(session, cache, keys),
+        Call::New(zerostate) => make(session, cache, *zerostate),
+        Call::Pop(from) => pop(session, cache, blocks, *from),
+        Call::Sync(id) => sync(session, cache, blocks, *id),
+        Call::Peek(from) => peek(session, cache, *from),
+        Call::TailIds(key) => tail_ids(session, cache, *key),
+        Call::Sound => sound(session, cache),
     }
 }

@@ -1,5 +1,5 @@
 // The counted view of the cache, and all that it holds.
-use crate::state::State;
+use crate::state::Session;
 use block_records::block_id::{is_zero_id, is_zero_shard};
 use block_records::entry::{BlockCacheEntry, MasterBlock, is_zero_entry};
 use block_records::top_block::{is_zero_tops, zero_tops};
@@ -16,59 +16,59 @@ fn marks<B>(group: &Group<B>) -> Marks {
     }
 }
 
-fn dump_masters(state: &mut State<'_>, masters: &MasterGroup) {
+fn dump_masters(session: &mut Session<'_>, masters: &MasterGroup) {
     for block in masters.entries.listed() {
-        state.print(Dumped::Entry(*block));
+        session.print(Dumped::Entry(*block));
     }
 }
 
-fn dump_ids(state: &mut State<'_>, data: &MasterData) {
+fn dump_ids(session: &mut Session<'_>, data: &MasterData) {
     for id in data.ids.listed() {
-        state.print(Dumped::Id(*id));
+        session.print(Dumped::Id(*id));
     }
 }
 
-fn dump_shard(state: &mut State<'_>, held: &ShardGroup) {
+fn dump_shard(session: &mut Session<'_>, held: &ShardGroup) {
     let group = &held.group;
     let shard = held.shard;
-    state.print(Dumped::Shard {
+    session.print(Dumped::Shard {
         shard,
         marks: marks(group),
     });
     for entry in group.entries.listed() {
-        state.print(Dumped::Entry(MasterBlock {
+        session.print(Dumped::Entry(MasterBlock {
             entry: *entry,
             tops: zero_tops(),
         }));
     }
 }
 
-pub fn dump(state: &mut State<'_>, cache: &Cache) {
-    state.print(Dumped::Zerostate(cache.zerostate_mc_seqno));
-    state.print(Dumped::Masters {
+pub fn dump(session: &mut Session<'_>, cache: &Cache) {
+    session.print(Dumped::Zerostate(cache.zerostate_mc_seqno));
+    session.print(Dumped::Masters {
         marks: marks(&cache.masters),
         range: cache.data.range,
     });
-    dump_masters(state, &cache.masters);
-    dump_ids(state, &cache.data);
+    dump_masters(session, &cache.masters);
+    dump_ids(session, &cache.data);
     for held in cache.shards.listed() {
-        dump_shard(state, held);
+        dump_shard(session, held);
     }
-    state.print(Dumped::End);
+    session.print(Dumped::End);
 }
 
 // ===== every place; what is all zeros is left out =====
 
-fn dump_raw_ids(state: &mut State<'_>, data: &MasterData) {
+fn dump_raw_ids(session: &mut Session<'_>, data: &MasterData) {
     for (place, id) in data.ids.items.iter().enumerate() {
         if !is_zero_id(*id) {
-            state.print(Raw::Id { place, id: *id });
+            session.print(Raw::Id { place, id: *id });
         }
     }
 }
 
-fn dump_raw_marks<B>(state: &mut State<'_>, place: RawGroup, group: &Group<B>) {
-    state.print(Raw::Group {
+fn dump_raw_marks<B>(session: &mut Session<'_>, place: RawGroup, group: &Group<B>) {
+    session.print(Raw::Group {
         group: place,
         count: group.entries.count,
         marks: marks(group),
@@ -80,9 +80,14 @@ fn is_bare<B>(group: &Group<B>) -> bool {
     group.entries.count == 0 && group.mark.is_none() && group.boundary.is_none()
 }
 
-fn dump_raw_entry(state: &mut State<'_>, group: GroupPlace, place: usize, entry: &BlockCacheEntry) {
+fn dump_raw_entry(
+    session: &mut Session<'_>,
+    group: GroupPlace,
+    place: usize,
+    entry: &BlockCacheEntry,
+) {
     if !is_zero_entry(*entry) {
-        state.print(Raw::Entry {
+        session.print(Raw::Entry {
             group,
             place,
             entry: *entry,
@@ -90,51 +95,51 @@ fn dump_raw_entry(state: &mut State<'_>, group: GroupPlace, place: usize, entry:
     }
 }
 
-fn dump_raw_masters(state: &mut State<'_>, masters: &MasterGroup) {
+fn dump_raw_masters(session: &mut Session<'_>, masters: &MasterGroup) {
     if !is_bare(masters) {
-        dump_raw_marks(state, RawGroup::Masters, masters);
+        dump_raw_marks(session, RawGroup::Masters, masters);
     }
     for (place, block) in masters.entries.items.iter().enumerate() {
-        dump_raw_entry(state, GroupPlace::Masters, place, &block.entry);
+        dump_raw_entry(session, GroupPlace::Masters, place, &block.entry);
     }
     for (place, block) in masters.entries.items.iter().enumerate() {
         let tops = block.tops;
         if !is_zero_tops(tops) {
-            state.print(Raw::Tops { place, tops });
+            session.print(Raw::Tops { place, tops });
         }
     }
 }
 
-fn dump_raw_shard(state: &mut State<'_>, place: usize, held: &ShardGroup) {
+fn dump_raw_shard(session: &mut Session<'_>, place: usize, held: &ShardGroup) {
     let group = &held.group;
     let shard = held.shard;
     if !is_zero_shard(shard) || !is_bare(group) {
-        dump_raw_marks(state, RawGroup::Shard(place, shard), group);
+        dump_raw_marks(session, RawGroup::Shard(place, shard), group);
     }
     for (at, entry) in group.entries.items.iter().enumerate() {
-        dump_raw_entry(state, GroupPlace::Shard(place), at, entry);
+        dump_raw_entry(session, GroupPlace::Shard(place), at, entry);
     }
 }
 
-pub fn dump_raw(state: &mut State<'_>, cache: &Cache) {
-    state.print(Raw::Zero);
-    state.print(Raw::Head {
+pub fn dump_raw(session: &mut Session<'_>, cache: &Cache) {
+    session.print(Raw::Zero);
+    session.print(Raw::Head {
         zerostate: cache.zerostate_mc_seqno,
         range: cache.data.range,
         ids: cache.data.ids.count,
         shards: cache.shards.count,
     });
-    dump_raw_ids(state, &cache.data);
-    dump_raw_masters(state, &cache.masters);
+    dump_raw_ids(session, &cache.data);
+    dump_raw_masters(session, &cache.masters);
     for (place, held) in cache.shards.items.iter().enumerate() {
-        dump_raw_shard(state, place, held);
+        dump_raw_shard(session, place, held);
     }
 }
 
-pub fn dump_slice(state: &mut State<'_>, blocks: &[BlockCacheEntry]) {
+pub fn dump_slice(session: &mut Session<'_>, blocks: &[BlockCacheEntry]) {
     for (place, entry) in blocks.iter().enumerate() {
         if !is_zero_entry(*entry) {
-            state.print(Raw::Slice {
+            session.print(Raw::Slice {
                 place,
                 entry: *entry,
             });

@@ -1,6 +1,6 @@
 // The lines of a load: each goes to the next free place of its list.
 use crate::raw::set_marks;
-use crate::state::State;
+use crate::state::Session;
 use block_records::block_id::ShardIdent;
 use block_records::entry::MasterBlock;
 use block_records::listed::Listed;
@@ -11,9 +11,9 @@ use replay_text::raw::GroupPlace;
 use replay_text::unexpected::{Expected, Unexpected};
 
 // `load` itself.
-pub fn begin_load(state: &mut State<'_>, cache: &mut Cache) {
+pub fn begin_load(session: &mut Session<'_>, cache: &mut Cache) {
     *cache = empty(0).cache;
-    state.begin_load();
+    session.begin_load();
 }
 
 // The place that an item went to, the next one of its list.
@@ -64,30 +64,30 @@ fn add_block(
     }
 }
 
-fn add_line(state: &mut State<'_>, cache: &mut Cache, line: &Dumped) -> Result<(), Expected> {
+fn add_line(session: &mut Session<'_>, cache: &mut Cache, line: &Dumped) -> Result<(), Expected> {
     match line {
         Dumped::Zerostate(seqno) => cache.zerostate_mc_seqno = *seqno,
         Dumped::Masters { marks, range } => {
             set_marks(&mut cache.masters, marks);
             cache.data.range = *range;
-            state.group = Some(GroupPlace::Masters);
+            session.state.group = Some(GroupPlace::Masters);
         }
         Dumped::Shard { shard, marks } => {
             let place = add_shard(cache, *shard, marks)?;
-            state.group = Some(place);
+            session.state.group = Some(place);
         }
-        Dumped::Entry(block) => add_block(cache, state.group, block)?,
+        Dumped::Entry(block) => add_block(cache, session.state.group, block)?,
         Dumped::Id(id) => {
             add(&mut cache.data.ids, *id)?;
         }
-        Dumped::End => state.end_load(),
+        Dumped::End => session.end_load(),
     }
     Ok(())
 }
 
 // A line that has no place is bad.
-pub fn load_line(state: &mut State<'_>, cache: &mut Cache, line: &Dumped) {
-    if let Err(expected) = add_line(state, cache, line) {
-        state.complain(Unexpected::line(expected));
+pub fn load_line(session: &mut Session<'_>, cache: &mut Cache, line: &Dumped) {
+    if let Err(expected) = add_line(session, cache, line) {
+        session.complain(Unexpected::line(expected));
     }
 }

@@ -6,9 +6,9 @@ use replay_text::unexpected::{Expected, Unexpected};
 use std::fmt;
 use std::fmt::Write;
 
-#[derive(Drop)]
-pub struct State<'a> {
-    pub out: Output<'a>,
+// What a script has set, and what was counted.
+#[derive(Clone, Copy)]
+pub struct State {
     // the number of the line
     pub line: u64,
     // how many places of the slice are lent
@@ -25,27 +25,36 @@ pub struct State<'a> {
     pub bad: u64,
 }
 
-impl<'a> State<'a> {
+// That, and where answers go.
+#[derive(Drop)]
+pub struct Session<'a> {
+    pub out: Output<'a>,
+    pub state: State,
+}
+
+impl<'a> Session<'a> {
     pub fn new(out: Output<'a>) -> Self {
-        State {
+        Session {
             out,
-            line: 0,
-            places: 128,
-            numbered: false,
-            load: None,
-            group: None,
-            calls: 0,
-            refused: 0,
-            bad: 0,
+            state: State {
+                line: 0,
+                places: 128,
+                numbered: false,
+                load: None,
+                group: None,
+                calls: 0,
+                refused: 0,
+                bad: 0,
+            },
         }
     }
 
     pub fn is_loading(&self) -> bool {
-        self.load.is_some()
+        self.state.load.is_some()
     }
 
     pub fn count_line(&mut self) {
-        self.line = self.line.saturating_add(1);
+        self.state.line = self.state.line.saturating_add(1);
     }
 
     // What is printed may fail to go out, and is then dropped.
@@ -55,16 +64,16 @@ impl<'a> State<'a> {
 
     // The number of the line before its answer, where that is asked for.
     fn lead(&mut self) {
-        if self.numbered {
-            let line = self.line;
+        if self.state.numbered {
+            let line = self.state.line;
             let _ = write!(self.out, "{line}: ");
         }
     }
 
     // The line is bad: nothing else changes.
     pub fn complain(&mut self, unexpected: Unexpected) {
-        self.bad = self.bad.saturating_add(1);
-        let line = self.line;
+        self.state.bad = self.state.bad.saturating_add(1);
+        let line = self.state.line;
         let _ = writeln!(self.out, "line {line}: {unexpected}");
     }
 
@@ -76,11 +85,11 @@ impl<'a> State<'a> {
     // The answer of a call.
     pub fn answer<D: fmt::Display + Drop>(&mut self, answer: Result<D, Refusal>) {
         self.lead();
-        self.calls = self.calls.saturating_add(1);
+        self.state.calls = self.state.calls.saturating_add(1);
         match answer {
             Ok(shown) => self.print(shown),
             Err(refusal) => {
-                self.refused = self.refused.saturating_add(1);
+                self.state.refused = self.state.refused.saturating_add(1);
                 self.print(refusal);
             }
         }
@@ -88,13 +97,13 @@ impl<'a> State<'a> {
 
     // `load` itself; the cache is emptied beside it.
     pub fn begin_load(&mut self) {
-        self.load = Some(self.line);
-        self.group = None;
+        self.state.load = Some(self.state.line);
+        self.state.group = None;
     }
 
     // The end of a load.
     pub fn end_load(&mut self) {
-        self.load = None;
+        self.state.load = None;
         self.lead();
         self.print("loaded");
     }

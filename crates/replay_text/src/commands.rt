@@ -123,11 +123,32 @@ fn read_time(scanner: &mut Scanner<'_>) -> Result<Command, Unexpected> {
     Ok(Command::Time(times))
 }
 
-// A line outside a load, but a call or one that looks.
-fn read_setting(scanner: &mut Scanner<'_>) -> Result<Command, Unexpected> {
+// A line outside a load that is neither a setting, a call nor one that looks.
+fn read_other(scanner: &mut Scanner<'_>) -> Result<Command, Unexpected> {
     if let Some(raw) = read_raw(scanner)? {
         return Ok(Command::Raw(raw));
     }
+    if is_dumped(scanner) {
+        return Err(scanner.unexpected(Expected::NoLoad));
+    }
+    Err(scanner.unexpected(Expected::Command))
+}
+
+fn read_call_or_other(scanner: &mut Scanner<'_>) -> Result<Command, Unexpected> {
+    if let Some(call) = read_store(scanner)? {
+        return Ok(Command::Call(call));
+    }
+    if let Some(call) = read_other_call(scanner)? {
+        return Ok(Command::Call(call));
+    }
+    if let Some(look) = read_look(scanner)? {
+        return Ok(Command::Look(look));
+    }
+    read_other(scanner)
+}
+
+// The settings are tried first: an answer that no call stands here is as large as a call.
+fn read_command(scanner: &mut Scanner<'_>) -> Result<Command, Unexpected> {
     if scanner.takes_name("slice") {
         return read_slice(scanner);
     }
@@ -143,23 +164,7 @@ fn read_setting(scanner: &mut Scanner<'_>) -> Result<Command, Unexpected> {
     if scanner.takes_name("time") {
         return read_time(scanner);
     }
-    if is_dumped(scanner) {
-        return Err(scanner.unexpected(Expected::NoLoad));
-    }
-    Err(scanner.unexpected(Expected::Command))
-}
-
-fn read_command(scanner: &mut Scanner<'_>) -> Result<Command, Unexpected> {
-    if let Some(call) = read_store(scanner)? {
-        return Ok(Command::Call(call));
-    }
-    if let Some(call) = read_other_call(scanner)? {
-        return Ok(Command::Call(call));
-    }
-    if let Some(look) = read_look(scanner)? {
-        return Ok(Command::Look(look));
-    }
-    read_setting(scanner)
+    read_call_or_other(scanner)
 }
 
 // The command of a line; empty lines and comments have none. Within a load only a dump's lines are taken, and those only within a load.

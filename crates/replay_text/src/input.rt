@@ -1,7 +1,12 @@
 // The script, line by line. The buffers are lent and of a fixed size: std's `BufReader` asks for memory.
+ghost use Rattle.std.specs.Prelude.{◌≤◌};
+
 use crate::commands::{Command, read_line};
 use crate::unexpected::{Expected, Unexpected};
 use std::io::Read;
+
+// How many bytes go from the buffer to the line at once, at most.
+const PART: usize = 256;
 
 #[derive(Drop)]
 pub struct Input<'source, 'buffer, 'line, R> {
@@ -84,26 +89,24 @@ impl<'source, 'buffer, 'line, R: Read> Input<'source, 'buffer, 'line, R> {
         }
     }
 
-    // What the buffer holds, up to a line end. Byte by byte: copied as a slice, a lent field of self is used beside another, which the proof does not cover.
+    // A part of what the buffer holds, up to a line end. It is copied out first: that one lent field of self is written while another is read, the proof does not cover.
     fn take_part(&mut self) {
-        for at in self.from..self.to {
-            let Some(byte) = self.buffer.get(at).copied() else {
-                break;
-            };
-            self.from = at + 1;
-            if byte == b'\n' {
-                self.complete = true;
-                break;
-            }
-            self.append(byte);
-        }
-    }
-
-    fn append(&mut self, byte: u8) {
-        if self.length < self.line.len() {
-            self.line[self.length] = byte;
-        }
-        self.length = self.length.saturating_add(1);
+        let from = self.from;
+        let to = self.to;
+        let at = self.length;
+        let mut part = [0u8; PART];
+        let held = copy_front(&mut part, self.buffer, from, to);
+        let end = part[..held]
+            .iter()
+            .position(|byte| *byte == b'\n')
+            .unwrap_or(held);
+        put_in_line(self.line, at, &part[..end]);
+        self.length = at.saturating_add(end);
+        self.complete = end < held;
+        // the line end is taken too
+        self.from = from
+            .saturating_add(end)
+            .saturating_add(usize::from(end < held));
     }
 
     fn refill(&mut self) {
@@ -117,5 +120,28 @@ impl<'source, 'buffer, 'line, R: Read> Input<'source, 'buffer, 'line, R> {
             }
         }
         self.ended = self.to == 0;
+    }
+}
+
+// The bytes between two places go to the front of a part, as many as it takes; how many they are.
+fn copy_front(part: &mut [u8; PART], bytes: &[u8], from: usize, to: usize) -> usize
+    ensures { result ≤ 256 }
+{
+    match bytes.get(from..to) {
+        None => 0,
+        Some(waiting) => {
+            let held = waiting.len().min(PART);
+            part[..held].copy_from_slice(&waiting[..held]);
+            held
+        }
+    }
+}
+
+// Bytes go into a line from a place on; those past its last place are left out.
+fn put_in_line(line: &mut [u8], at: usize, bytes: &[u8]) {
+    if at < line.len() {
+        let free = &mut line[at..];
+        let few = free.len().min(bytes.len());
+        free[..few].copy_from_slice(&bytes[..few]);
     }
 }

@@ -46,11 +46,30 @@ impl<'a> Output<'a> {
 }
 
 impl fmt::Write for Output<'_> {
-    // Where output can't be written, what follows is dropped.
+    // Where output can't be written, what follows is dropped. A text that the buffer has room for goes in whole, any other byte by byte.
     fn write_str(&mut self, text: &str) -> fmt::Result {
-        for byte in text.as_bytes().iter() {
+        let bytes = text.as_bytes();
+        let used = self.used;
+        if put_whole(self.buffer, used, bytes) {
+            self.used = used.saturating_add(bytes.len());
+            return Ok(());
+        }
+        for byte in bytes {
             self.put(*byte);
         }
         Ok(())
     }
+}
+
+// The bytes go into the buffer from a place on, if there is room for all of them.
+fn put_whole(buffer: &mut [u8], at: usize, bytes: &[u8]) -> bool {
+    if buffer.len() < at {
+        return false;
+    }
+    let free = &mut buffer[at..];
+    if free.len() < bytes.len() {
+        return false;
+    }
+    free[..bytes.len()].copy_from_slice(bytes);
+    true
 }

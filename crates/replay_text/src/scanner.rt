@@ -1,11 +1,19 @@
 // Reading a line from left to right. Past the line's end there is no byte. Where a value isn't there, the reading ends.
-ghost use Rattle.std.specs.Prelude.{◌≡◌};
-ghost use Rattle.replay_text.specs.Bytes.{ends_word, has};
+ghost use Rattle.std.specs.Prelude.{◌≡◌, drop};
+ghost use Rattle.replay_text.specs.Bytes.{begins, ends_word, has};
+ghost use Rattle.replay_text.specs.Numbers.{minus, plus};
 
 use crate::unexpected::{Expected, Unexpected};
 
 // A number of 64 bits has at most so many digits.
 const MOST_DIGITS: u8 = 20;
+
+// The last of some places, 0 where there is none.
+fn last_place(places: u8) -> u8
+    ensures { result ≡ minus places 1 }
+{
+    places.saturating_sub(1)
+}
 
 #[derive(Drop)]
 pub struct Scanner<'a> {
@@ -26,7 +34,10 @@ impl<'a> Scanner<'a> {
         }
     }
 
-    fn rest(&self) -> &'a [u8] {
+    // What the line has from here on.
+    fn rest(&self) -> &'a [u8]
+        ensures { result.now ≡ drop self.now.at self.now.line.now }
+    {
         let line = self.line;
         match line.get(self.at..) {
             None => &[],
@@ -34,7 +45,11 @@ impl<'a> Scanner<'a> {
         }
     }
 
-    fn advance(&mut self, bytes: usize) {
+    // Some bytes further; no place is past the greatest number.
+    fn advance(&mut self, bytes: usize)
+        ensures place { self.new.at ≡ plus self.old.at bytes }
+        ensures line { self.new.line.now ≡ self.old.line.now }
+    {
         self.at = self.at.saturating_add(bytes);
     }
 
@@ -70,7 +85,11 @@ impl<'a> Scanner<'a> {
 
     // ===== texts =====
 
-    pub fn begins(&self, text: &str) -> bool {
+    // Whether a text stands here, each of its bytes.
+    #[tactic(auto, using(crate::proofs::BytesLaws::text_stands))]
+    pub fn begins(&self, text: &str) -> bool
+        ensures { result ≡ begins self.now.line.now self.now.at text.now }
+    {
         self.rest().starts_with(text.as_bytes())
     }
 
@@ -188,7 +207,7 @@ impl<'a> Scanner<'a> {
 
     // A place of a list that has so many.
     pub fn place(&mut self, places: u8, expected: Expected) -> Result<usize, Unexpected> {
-        let place = self.number(0, places.saturating_sub(1), expected)?;
+        let place = self.number(0, last_place(places), expected)?;
         Ok(usize::from(place))
     }
 

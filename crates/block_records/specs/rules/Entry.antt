@@ -26,9 +26,14 @@ abbrev pub with_kind : BlockCacheEntryData → Entry → Entry
 with_kind k e =
     record { id = e.id; previous = e.previous; tops = e.tops; anchor = e.anchor; reference = e.reference; payload = e.payload; kind = k }
 
--- ===== equality of statuses =====
+-- ===== the number of a case: its place in the list, from 0 =====
 
--- the number of a status: its place in the list, from 0
+-- of a kind
+abbrev pub kind_number : BlockCacheEntryData → ℕ
+kind_number (collated st after handle weight processed) = 0
+kind_number (received after more) = 1
+
+-- of a status
 abbrev pub status_number : CandidateStatus → ℕ
 status_number Collated = 0
 status_number Validated = 1

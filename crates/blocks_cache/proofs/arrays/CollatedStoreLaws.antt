@@ -8,6 +8,8 @@ use Rattle.std.specs.Prelude.{Option, None, Some, cond, is_some, Err, Ok, Result
 use Rattle.std.proofs.Common.{◌≡◌, Bool, true, false, not, ◌&&◌, ◌||◌, ltb, List, [], ◌∷◌, ◌++◌, length, sym, refl, ap, ◌∙◌}
 use Rattle.block_records.specs.declared.block_id.BlockId.{BlockId}
 use Rattle.block_records.specs.declared.block_id.ShardIdent.{ShardIdent}
+use Rattle.block_records.specs.declared.entry.BlockCacheEntry.{BlockCacheEntry}
+use Rattle.block_records.specs.declared.entry.MasterBlock.{MasterBlock}
 use Rattle.block_records.specs.declared.store_records.BlockCandidate.{BlockCandidate}
 use Rattle.blocks_group.specs.declared.store.GroupStore.{GroupStore}
 use Rattle.blocks_group.specs.declared.store.StoreAnswer.TheVariants.{Stored as stored_answer}
@@ -25,7 +27,7 @@ use Rattle.blocks_group.specs.layout.Block.{BlockLaws, BlockParts, master_laws, 
 use Rattle.blocks_group.specs.layout.Group.{pack_group}
 use Rattle.blocks_group.specs.rules.Group.{GroupModel, Stored, store_collated_at, vacant_or}
 use Rattle.blocks_cache.proofs.arrays.MasterDataLaws.{has_place_for_id_packed, put_id_packed}
-use Rattle.blocks_cache.proofs.arrays.StoresLaws.{group_fits, has_room_is, neither, shard_room, store_leaves, stored_packed, where_held_packed, with_shard_packed, store_outcome}
+use Rattle.blocks_cache.proofs.arrays.StoresLaws.{IsUnstored, group_answer, group_fits, has_room_is, neither, nothing_stored, unstored, shard_room, store_leaves, stored_packed, where_held_packed, with_shard_packed, store_outcome}
 use Rattle.blocks_cache.proofs.layout.CallOnLaws.{on_sound}
 use Rattle.blocks_cache.specs.arrays.MasterData.{id_at}
 use Rattle.blocks_cache.specs.arrays.Stores.{collated_ids, master_candidate_stored, shard_candidate_stored, store_candidate, store_master_candidate, store_shard_candidate, answered_in, shard_candidate_in, unless_refused, with_masters_and_data, StoreStep}
@@ -36,6 +38,17 @@ use Rattle.cache_rules.specs.Calls.{refused, store_collated, unlent}
 use Rattle.cache_rules.specs.Effects.{answered, collated_data, effect, store_change}
 use Rattle.cache_rules.specs.Model.{Model, entry_for, find_shard, group_for, id_before, moved_start, set_group, with_ids_and_range, with_masters, with_shards}
 use Rattle.cache_rules.specs.Refusals.{further, has_id_room, has_room, inserts_or_updates, sound_model}
+
+-- ===== where nothing is stored =====
+
+-- a candidate that its group's store doesn't store leaves the cache as it was
+pub master_candidate_unstored : (c : BlockCandidate) (h : Cache) (o : Result (GroupStore MasterBlock) Refusal) → IsUnstored (group_answer o) →
+    nothing_stored (group_answer o) h ≡ unless_refused o (master_candidate_stored c h) h
+master_candidate_unstored c h = unstored (master_candidate_stored c h) h (λ g. refl)
+
+pub shard_candidate_unstored : (s : ShardIdent) (h : Cache) (o : Result (GroupStore BlockCacheEntry) Refusal) → IsUnstored (group_answer o) →
+    nothing_stored (group_answer o) h ≡ unless_refused o (shard_candidate_stored s h) h
+shard_candidate_unstored s h = unstored (shard_candidate_stored s h) h (λ g. refl)
 
 -- ===== on a packed cache =====
 

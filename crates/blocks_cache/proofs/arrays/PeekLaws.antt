@@ -25,7 +25,7 @@ use Rattle.block_records.specs.rules.Entry.{Entry}
 use Rattle.block_records.specs.rules.Lists.{padded}
 use Rattle.block_records.specs.rules.Questions.{ask, seqno_fits}
 use Rattle.blocks_cache.proofs.arrays.LookupLaws.{cached_block_packed}
-use Rattle.blocks_cache.proofs.arrays.CheckLaws.{checked, checked_yes, next_refuses, passed_on, refused_by, sound_refuses}
+use Rattle.blocks_cache.proofs.layout.CheckLaws.{checked, checked_yes, next_refuses, passed_on, refused_by, sound_refuses}
 use Rattle.blocks_cache.proofs.layout.CallOnLaws.{on_sound, second_part_decides}
 use Rattle.blocks_cache.specs.arrays.Lookup.{cached_block}
 use Rattle.blocks_cache.specs.arrays.Peek.{found_peek, held_peek, held_seen_top, held_view_tops, naming_row, pack_row, pack_view, peek_block, peek_says, top_row, view_row, zero_row, zeroed_peek}

@@ -8,6 +8,8 @@ use Rattle.std.specs.Prelude.{Option, None, Some, cond, Err, Ok, Result}
 use Rattle.std.proofs.Common.{◌≡◌, ℕ, Bool, true, false, not, ◌||◌, ltb, leb, List, [], ◌∷◌, ◌++◌, length, sym, refl, ap, ◌∙◌}
 use Rattle.block_records.specs.declared.block_id.BlockId.{BlockId}
 use Rattle.block_records.specs.declared.block_id.ShardIdent.{ShardIdent}
+use Rattle.block_records.specs.declared.entry.BlockCacheEntry.{BlockCacheEntry}
+use Rattle.block_records.specs.declared.entry.MasterBlock.{MasterBlock}
 use Rattle.block_records.specs.declared.store_records.ReceivedBlock.{ReceivedBlock}
 use Rattle.blocks_group.specs.declared.store.GroupStore.{GroupStore}
 use Rattle.blocks_group.specs.declared.store.StoreAnswer.TheVariants.{Stored as stored_answer, Synced as synced_answer}
@@ -23,7 +25,7 @@ use Rattle.blocks_group.specs.layout.Block.{BlockLaws, BlockParts, master_laws, 
 use Rattle.blocks_group.specs.layout.Group.{pack_group}
 use Rattle.blocks_group.specs.rules.Group.{GroupModel, Stored, refresh, store_received_at, vacant_or}
 use Rattle.blocks_cache.proofs.arrays.MasterDataLaws.{drop_ids_from_packed}
-use Rattle.blocks_cache.proofs.arrays.StoresLaws.{group_fits, has_room_is, neither, shard_room, store_leaves, stored_packed, where_held_packed, with_shard_packed, store_outcome}
+use Rattle.blocks_cache.proofs.arrays.StoresLaws.{IsUnstored, group_answer, group_fits, has_room_is, neither, nothing_stored, unstored, shard_room, store_leaves, stored_packed, where_held_packed, with_shard_packed, store_outcome}
 use Rattle.blocks_cache.proofs.layout.CallOnLaws.{on_sound}
 use Rattle.blocks_cache.specs.arrays.Stores.{ids_after, master_receipt_stored, range_end_moved, shard_receipt_stored, store_master_receipt, store_receipt, store_shard_receipt, answered_in, shard_receipt_in, unless_refused, with_masters_and_data, with_shard_group, StoreStep, refused_in}
 use Rattle.blocks_cache.specs.layout.Cache.{HeldOutcome, answered_on, pack, pack_outcome, sound_cache, view, unlent_outcome, call_on}
@@ -31,6 +33,17 @@ use Rattle.cache_rules.specs.Calls.{store_received, synced, unlent, refused}
 use Rattle.cache_rules.specs.Effects.{answered, effect, outcome_of, plain, received_data, received_stored, store_and_refresh}
 use Rattle.cache_rules.specs.Model.{Model, entry_for, find_shard, group_for, ids_below, moved_end, set_group, with_ids_and_range, with_masters, with_shards}
 use Rattle.cache_rules.specs.Refusals.{further, has_room, is_synced, not_before_zerostate, own_reference, sound_model}
+
+-- ===== where nothing is stored =====
+
+-- a record that its group's store doesn't store leaves the cache as it was
+pub master_receipt_unstored : (r : ReceivedBlock) (h : Cache) (o : Result (GroupStore MasterBlock) Refusal) → IsUnstored (group_answer o) →
+    nothing_stored (group_answer o) h ≡ unless_refused o (master_receipt_stored r h) h
+master_receipt_unstored r h = unstored (master_receipt_stored r h) h (λ g. refl)
+
+pub shard_receipt_unstored : (r : ReceivedBlock) (h : Cache) (o : Result (GroupStore BlockCacheEntry) Refusal) → IsUnstored (group_answer o) →
+    nothing_stored (group_answer o) h ≡ unless_refused o (shard_receipt_stored r h) h
+shard_receipt_unstored r h = unstored (shard_receipt_stored r h) h (λ g. refl)
 
 -- ===== on a packed cache =====
 

@@ -7,7 +7,11 @@ use Rattle.std.specs.Prelude.{Option, Err, Ok, Result, option_map, None, Some, m
 use Rattle.std.proofs.Common.{◌≡◌, ℕ, ◌≤◌, Bool, true, false, ◌||◌, ltb, List, [], length, sym, refl, ap, ◌∙◌, arith, leb-true}
 use Rattle.block_records.specs.declared.block_id.BlockId.{BlockId}
 use Rattle.block_records.specs.declared.block_id.ShardIdent.{ShardIdent}
-use Rattle.blocks_group.specs.declared.store.StoreAnswer.TheVariants.{Stored as stored_answer}
+use Rattle.blocks_cache.specs.declared.cache.Cache.{Cache}
+use Rattle.blocks_group.specs.declared.group.Group.{Group}
+use Rattle.blocks_group.specs.declared.store.GroupStore.{GroupStore}
+use Rattle.blocks_group.specs.declared.store.StoreAnswer.{StoreAnswer}
+use Rattle.blocks_group.specs.declared.store.StoreAnswer.TheVariants.{Stored as stored_answer, Synced as synced_answer}
 use Rattle.blocks_cache.specs.declared.cache.ShardGroup.{ShardGroup}
 use Rattle.block_records.proofs.arrays.ArrayLaws.{each_put}
 use Rattle.block_records.proofs.rules.Tests.{clash, on}
@@ -35,6 +39,33 @@ use Rattle.std.proofs.lemmas.List.{length-map}
 -- what a store answers and leaves; no slice is lent with it
 abbrev pub store_outcome : StoreStep → HeldOutcome
 store_outcome s = unlent_outcome s.cache (store_says s.answer)
+
+-- ===== where nothing is stored =====
+
+-- a group's answer that is not Stored: Synced or a refusal, and the cache as it was
+abbrev pub nothing_stored : Result StoreAnswer Refusal → Cache → StoreStep
+nothing_stored (Ok a) h = answered_in a h
+nothing_stored (Err n) h = refused_in n h
+
+-- what a group's store answers, without the group
+abbrev pub group_answer : {B : Type 0} → Result (GroupStore B) Refusal → Result StoreAnswer Refusal
+group_answer (Ok s) = Ok s.answer
+group_answer (Err n) = Err n
+
+-- no block is stored
+abbrev pub IsUnstored : Result StoreAnswer Refusal → Type 0
+IsUnstored a = (both mismatch : Bool) → a ≡ Ok (stored_answer both mismatch) → ⊥
+
+-- so nothing is stored in the cache, by any definition that stores nothing where the answer is Synced
+pub unstored : {B : Type 0} (made : GroupStore B → StoreStep) (h : Cache) →
+    ((g : Group B) → answered_in synced_answer h ≡ made (record { answer = synced_answer; group = g })) →
+    (o : Result (GroupStore B) Refusal) → IsUnstored (group_answer o) → nothing_stored (group_answer o) h ≡ unless_refused o made h
+unstored made h is (Err n) t = refl
+unstored {B = B} made h is (Ok s) t = by_answer s.answer t
+  where
+    by_answer : (a : StoreAnswer) → IsUnstored (Ok a) → answered_in a h ≡ made (record { answer = a; group = s.group })
+    by_answer (stored_answer both mismatch) u = absurd (u both mismatch refl)
+    by_answer synced_answer u = is s.group
 
 -- ===== what is stored in a packed cache =====
 

@@ -33,7 +33,7 @@ use Rattle.block_records.specs.rules.Lists.{rising}
 use Rattle.block_records.proofs.layout.QuestionLaws.{first_no_append, or_else}
 use Rattle.cache_rules.proofs.SoundSteps.{all_yes}
 use Rattle.block_records.specs.rules.Questions.{Question, ask, first_no, passed, seqno_fits}
-use Rattle.blocks_cache.proofs.arrays.CheckLaws.{not_found, passed_no, passed_on, passed_yes}
+use Rattle.blocks_cache.proofs.layout.CheckLaws.{not_found, passed_no, passed_on, passed_yes}
 use Rattle.blocks_cache.proofs.arrays.MasterDataLaws.{drop_ids_below_packed}
 use Rattle.blocks_cache.proofs.layout.CacheLaws.{sound_cache_packed}
 use Rattle.blocks_cache.proofs.layout.CallLaws.{no_leaves}

@@ -39,7 +39,7 @@ use Rattle.block_records.specs.rules.BlockId.{id_shard, is_masterchain, key, les
 use Rattle.block_records.specs.rules.Entry.{Entry}
 use Rattle.block_records.specs.rules.Lists.{padded, put, rising}
 use Rattle.block_records.specs.rules.Questions.{Question, ask, entry_fits, first_no, key_fits, seqno_fits}
-use Rattle.blocks_cache.proofs.arrays.CheckLaws.{checked, checked_yes, next_refuses, passed_on, refused_by, sound_refuses}
+use Rattle.blocks_cache.proofs.layout.CheckLaws.{checked, checked_yes, next_refuses, passed_on, refused_by, sound_refuses}
 use Rattle.blocks_cache.proofs.arrays.LookupLaws.{cached_block_packed}
 use Rattle.blocks_cache.proofs.arrays.TailRowLaws.{passed, picked, row_level, row_once}
 use Rattle.blocks_cache.proofs.arrays.TailWalkLaws.{queue_passed}

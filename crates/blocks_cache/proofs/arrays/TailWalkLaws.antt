@@ -20,7 +20,7 @@ use Rattle.cache_rules.specs.Extraction.{top_id}
 use Rattle.std.proofs.Common.{◌≡◌, ℕ, ◌+◌, ◌≤◌, leb, List, [], ◌++◌, length, get_or, sym, refl, ap, ◌∙◌, append-nil, arith, length-append, zero, suc, ◌-◌, ◌<◌, Bool, true, false, le-ltb, lt-ltb, le-leb, ◌||◌, eqb, ◌≢◌, eq-eqb, ne_eqb, ◌⊎◌, inl, inr}
 use Rattle.std.specs.List.{fold}
 use Rattle.block_records.specs.declared.questions.Refusal.TheVariants.{NoMaster}
-use Rattle.blocks_cache.proofs.arrays.CheckLaws.{not_found, passed_on, was_found}
+use Rattle.blocks_cache.proofs.layout.CheckLaws.{not_found, passed_on, was_found}
 use Rattle.std.proofs.lemmas.Option.{get_or_from_slice_get, none-some, slice_get_cases, slice_get_within}
 use Rattle.std.specs.Prelude.{slice_get, map, cond, Err, Ok, Option, None, Some, drop}
 use borrow.Author.Tests.{lt-leb}

@@ -23,7 +23,7 @@ use Rattle.block_records.specs.rules.Entry.{Entry, with_kind}
 use Rattle.block_records.specs.rules.Lists.{put}
 use Rattle.block_records.specs.rules.Questions.{ask, id_fits, Question}
 use Rattle.blocks_cache.proofs.layout.CallOnLaws.{on_sound}
-use Rattle.blocks_cache.specs.arrays.Cache.{with_master_group, CacheStep}
+use Rattle.blocks_cache.specs.layout.Parts.{with_master_group, CacheStep}
 use Rattle.blocks_cache.specs.arrays.Validation.{held_validate_kind, validate_block, validate_master, validation_says}
 use Rattle.blocks_cache.specs.layout.Cache.{call_on, pack, pack_outcome, view, unlent_outcome, HeldOutcome}
 use Rattle.cache_rules.proofs.SoundLaws.{parts}

@@ -7,7 +7,7 @@ use Rattle.std.proofs.Common.{◌≡◌, true, List, ◌++◌, sym, refl, ap, �
 use Rattle.blocks_cache.specs.declared.cache.Cache.{Cache}
 use Rattle.block_records.specs.rules.Questions.{Question, first_no, passed}
 use Rattle.blocks_cache.proofs.layout.CallLaws.{err_of}
-use Rattle.blocks_cache.proofs.arrays.CheckLaws.{checked, checked_yes, sound_refuses}
+use Rattle.blocks_cache.proofs.layout.CheckLaws.{checked, checked_yes, sound_refuses}
 use Rattle.blocks_cache.proofs.layout.CallOnLaws.{first_part_refuses, second_part_decides}
 use Rattle.blocks_cache.specs.layout.Cache.{answered_on, call_on, sound_cache, unlent_outcome, view}
 use Rattle.cache_rules.specs.Calls.{Request, refused, unlent}

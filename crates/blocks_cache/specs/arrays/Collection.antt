@@ -13,7 +13,7 @@ use Rattle.blocks_cache.specs.declared.cache.ShardGroup.{ShardGroup}
 use Rattle.block_records.specs.declared.questions.Refusal.{Refusal}
 use Rattle.blocks_cache.specs.declared.master_data.MasterData.{MasterData}
 use Rattle.block_records.specs.rules.BlockId.{is_masterchain, key_shard}
-use Rattle.blocks_cache.specs.arrays.Cache.{with_master_data, with_master_group, with_shard_groups}
+use Rattle.blocks_cache.specs.layout.Parts.{with_master_data, with_master_group, with_shard_groups}
 use Rattle.blocks_cache.specs.arrays.MasterData.{drop_ids_below, drop_ids_from}
 use Rattle.blocks_cache.specs.arrays.Shards.{shard_place}
 use Rattle.blocks_cache.specs.layout.Cache.{Shards, zero_shard_group}

@@ -22,7 +22,7 @@ use Rattle.blocks_cache.specs.declared.stores.BlockCacheStoreResult.TheVariants.
 use Rattle.block_records.specs.layout.Listed.{listed}
 use Rattle.block_records.specs.rules.BlockId.{id_shard, is_masterchain, same_id}
 use Rattle.block_records.specs.rules.Limits.{shards_limit}
-use Rattle.blocks_cache.specs.arrays.Cache.{CacheStep, with_master_data, with_master_group}
+use Rattle.blocks_cache.specs.layout.Parts.{CacheStep, with_master_data, with_master_group}
 use Rattle.blocks_cache.specs.arrays.MasterData.{drop_ids_from, has_place_for_id, highest_id, put_id}
 use Rattle.blocks_cache.specs.arrays.Shards.{listed_shard, put_shard}
 use Rattle.blocks_cache.specs.layout.Cache.{Shards}

@@ -12,7 +12,7 @@ use Rattle.blocks_cache.specs.declared.validation.ValidationAnswer.{ValidationAn
 use Rattle.blocks_cache.specs.declared.validation.ValidationAnswer.TheVariants.{NoChange as status_kept, Updated as status_updated}
 use Rattle.blocks_cache.specs.declared.validation.ValidationStatus.{ValidationStatus}
 use Rattle.blocks_cache.specs.declared.validation.ValidationStatus.TheVariants.{Complete as validation_complete, Skipped as validation_skipped}
-use Rattle.blocks_cache.specs.arrays.Cache.{CacheStep, with_master_group}
+use Rattle.blocks_cache.specs.layout.Parts.{CacheStep, with_master_group}
 use Rattle.cache_rules.specs.Calls.{Answer, Validation, complete, no_change, refused, skipped, validated}
 use Rattle.cache_rules.specs.Effects.{result_status, validated_kind}
 

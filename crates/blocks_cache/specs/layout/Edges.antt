@@ -11,7 +11,7 @@ use Rattle.block_records.specs.layout.Equality.{same_entry}
 use Rattle.block_records.specs.layout.Zeros.{zero_entry, zero_hash, zero_id, zero_prev_ids, zero_shard, zero_top, zero_tops}
 use Rattle.block_records.specs.rules.BlockId.{less_id, less_shard}
 use Rattle.block_records.specs.rules.Lists.{padded}
-use Rattle.blocks_cache.specs.arrays.Cache.{with_master_group, with_shard_groups}
+use Rattle.blocks_cache.specs.layout.Parts.{with_master_group, with_shard_groups}
 use Rattle.blocks_cache.specs.layout.Cache.{call_on, pack, same_cache, same_data, same_shard_group, sound_cache, zero_shard_group}
 use Rattle.blocks_group.specs.layout.Group.{ShardBlocks, held_empty_group, same_group}
 use Rattle.cache_rules.specs.Calls.{Answer, nothing, peek, refused}

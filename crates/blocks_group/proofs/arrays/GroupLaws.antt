@@ -1,6 +1,6 @@
 -- On a packed group, what the code does to the places is the rule of the model, packed; and what a lookup then answers.
 -- Assumes nothing.
-use Rattle.std.specs.Prelude.{Option, option_map, None, Some, map, cond, filter}
+use Rattle.std.specs.Prelude.{Err, Option, option_map, None, Some, map, cond, filter}
 use mathlib.Core.Bool.{Bool, ◌||◌, false, not, true}
 use mathlib.Core.List.{List}
 use mathlib.Core.Path.{◌∙◌, ◌≡◌, ap, refl, sym}
@@ -12,14 +12,15 @@ use Rattle.block_records.specs.declared.block_id.BlockIdShort.{BlockIdShort}
 use Rattle.block_records.proofs.arrays.ArrayLaws.{each_put, each_select}
 use Rattle.block_records.proofs.rules.ListLaws.{by_number, rising_each, rising_put, rising_select}
 use Rattle.block_records.proofs.rules.Tests.{on}
-use Rattle.block_records.specs.layout.Listed.{packed}
+use Rattle.blocks_group.specs.declared.group.Group.{Group}
+use Rattle.block_records.specs.layout.Listed.{listed, packed}
 use Rattle.block_records.specs.rules.Entry.{Entry, is_received, kind_received}
 use Rattle.block_records.specs.rules.Lists.{put, rising}
 use Rattle.blocks_group.proofs.arrays.LookupLaws.{find_each, find_retained, if_passes, seqno_place_finds}
 use Rattle.blocks_group.proofs.layout.BlockLaws.{packed_before, packed_kind, packed_seqno}
 use Rattle.blocks_group.proofs.layout.GroupLaws.{listed_packed}
 use Rattle.blocks_group.proofs.rules.GroupLaws.{at_without_same, entry_seqno}
-use Rattle.blocks_group.specs.arrays.Group.{block_at, found_at, other_seqno, put_block, refresh_group, without_block, retain_blocks}
+use Rattle.blocks_group.specs.arrays.Group.{block_at, found_at, other_seqno, place_of_seqno, put_block, refresh_group, without_block, retain_blocks}
 use Rattle.blocks_group.specs.arrays.Search.{seqno_place}
 use Rattle.blocks_group.specs.layout.Block.{BlockLaws, BlockParts, block_before, block_kind, block_seqno, pack_block, zero_block}
 use Rattle.blocks_group.specs.layout.Group.{pack_group, with_blocks}
@@ -36,6 +37,10 @@ put_model_fits e m h = rw (le-leb (length (put entry_before e m.entries)) 16 h)
 -- after entries are retained
 pub at_retained : (n : ℕ) (p : Entry → Bool) (es : List Entry) → rising entry_before es ≡ true → at_seqno n (filter p es) ≡ if_passes p (at_seqno n es)
 at_retained n p es r = find_retained entry_seqno n p es r
+
+-- where the search finds no place for a block of the seqno, there is none
+pub block_vacant : {B : Type 0} (k : BlockParts B) (n j : ℕ) (g : Group B) → place_of_seqno k n g ≡ Err j → block_at k n g ≡ None
+block_vacant k n j g e = ap (found_at (zero_block k) (listed g.entries)) e
 
 module _ {B : Type 0} (k : BlockParts B) (h : BlockLaws k) where
   -- ===== a block put in its place =====

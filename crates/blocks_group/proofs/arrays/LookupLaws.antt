@@ -10,8 +10,9 @@ use Prim.Native.Nat.{◌≤◌, ℕ}
 use native.Mathlib.Omega.{arith}
 use borrow.Author.Tests.{eq-eqb, eqb-true, ltb-false, ltb-true, ne_eqb}
 use lib.Dec.{eqb, ltb}
+use Rattle.std.specs.declared.cmp.Ordering.TheVariants.{Equal, Less}
 use Rattle.std.specs.Ordering.{is_eq, is_lt, nat_cmp}
-use Rattle.block_records.proofs.arrays.PlaceLaws.{next_place, place_each}
+use Rattle.block_records.proofs.arrays.PlaceLaws.{next_place, place_cons, place_each}
 use Rattle.block_records.proofs.rules.Finds.{find_none}
 use Rattle.block_records.proofs.rules.BlockIdLaws.{nat_eq_is, nat_lt_is}
 use Rattle.block_records.proofs.rules.ListLaws.{every_select, every_weaken}
@@ -27,6 +28,22 @@ use Rattle.std.specs.Cmp.{first_so, second_so}
 pub at_next : {A : Type 0} (z x : A) (xs : List A) (p : Result ℕ ℕ) → found_at z (x ∷ xs) (next_place p) ≡ found_at z xs p
 at_next z x xs (Ok k) = refl
 at_next z x xs (Err k) = refl
+
+-- a comparison that calls what passes equal, and all else less
+pub passes_is_lt : (b : Bool) → is_lt (cond b Equal Less) ≡ not b
+passes_is_lt b = on b (λ t. rw t) (λ t. rw t)
+
+pub passes_is_eq : (b : Bool) → is_eq (cond b Equal Less) ≡ b
+passes_is_eq b = on b (λ t. rw t) (λ t. rw t)
+
+-- at the place of the first that passes stands the first that passes
+pub found_first : {A : Type 0} (p : A → Bool) (z : A) (xs : List A) → found_at z xs (place (λ (x : A). not (p x)) p xs) ≡ find p xs
+unfolding place
+found_first p z [] = refl
+found_first p z (x ∷ xs) =
+    let below = λ (x : _). not (p x) in
+    rw (place_cons below p x xs)
+    (on (p x) (λ t. rw t) (λ t. rw t (at_next z x xs (place below p xs) ∙ found_first p z xs)))
 
 module _ {A B : Type 0} where
   -- a test of the images that says what a test of the elements says

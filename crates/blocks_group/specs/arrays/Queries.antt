@@ -4,8 +4,9 @@
 use Rattle.block_records.specs.declared.block_id.BlockIdShort.{BlockIdShort}
 use Prim.Native.Nat.{max, min}
 use Rattle.std.specs.List.{find, list_any, reduce}
-use Rattle.std.specs.Prelude.{Bool, ◌&&◌, ◌||◌, false, not, List, ℕ, leb, ltb, Option, None, Some, map, filter}
+use Rattle.std.specs.Prelude.{Bool, ◌&&◌, ◌||◌, false, not, List, ℕ, leb, ltb, Option, None, Some, map, filter, Result}
 use Rattle.blocks_group.specs.declared.group.Group.{Group}
+use Rattle.block_records.specs.arrays.Place.{place}
 use Rattle.block_records.specs.layout.Listed.{listed}
 use Rattle.block_records.specs.rules.Entry.{kind_applied, kind_received}
 use Rattle.blocks_group.specs.arrays.Group.{retain_blocks}
@@ -35,6 +36,10 @@ module _ {B : Type 0} (k : BlockParts B) where
   -- applied, above a seqno
   abbrev pub held_applied_above : ℕ → B → Bool
   held_applied_above n b = ltb n (block_seqno k b) && kind_applied (block_kind k b)
+
+  -- its place, the first one from f on; how many are listed, where there is none
+  abbrev pub first_applied_place : ℕ → Group B → Result ℕ ℕ
+  first_applied_place f g = place (λ (b : B). not (held_applied_from f b)) (held_applied_from f) (listed g.entries)
 
   -- pop and peek: the first block of that sort, from f on
   abbrev pub first_applied_block : ℕ → Group B → Option B

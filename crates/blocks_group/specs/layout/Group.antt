@@ -10,9 +10,9 @@ use Rattle.block_records.specs.declared.entry.MasterBlock.{MasterBlock}
 use Rattle.blocks_group.specs.declared.group.Group.{Group}
 use Rattle.blocks_group.specs.declared.mark.CheckedMark.{CheckedMark}
 use Rattle.block_records.specs.layout.Listed.{listed, packed}
-use Rattle.block_records.specs.rules.BlockId.{same_key}
+use Rattle.block_records.specs.rules.BlockId.{is_masterchain, same_key}
 use Rattle.block_records.specs.rules.Limits.{entries_limit}
-use Rattle.blocks_group.specs.layout.Block.{BlockParts, pack_block, same_block, view_block, zero_block}
+use Rattle.blocks_group.specs.layout.Block.{BlockParts, master_parts, pack_block, same_block, view_block, zero_block}
 use Rattle.blocks_group.specs.rules.Group.{GroupModel, given_mark, refreshed_mark}
 use Rattle.blocks_group.specs.rules.Soundness.{sound_group_model}
 
@@ -70,3 +70,7 @@ module _ {B : Type 0} (k : BlockParts B) where
   -- question 1 of a group as it is held
   abbrev pub sound_group : (ShardIdent → Bool) → Group B → Bool
   sound_group p g = group_tidy g && sound_group_model p (view_group g)
+
+-- question 1 of the masters' group
+abbrev pub sound_master_group : MasterGroup → Bool
+sound_master_group g = sound_group master_parts is_masterchain g
