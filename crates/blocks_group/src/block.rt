@@ -11,7 +11,7 @@ use block_records::entry::{
 };
 use block_records::questions::{held_entry_fits, held_shard_entry_fits};
 use block_records::store_records::{BlockCandidate, ReceivedBlock};
-use block_records::top_block::{TopBlocks, is_zero_tops, tops_tidy, zero_tops};
+use block_records::top_block::{TopBlocks, is_zero_tops, stored_tops, tops_tidy, zero_tops};
 
 // A block of a group, by its parts.
 pub trait Block: Copy {
@@ -21,12 +21,18 @@ pub trait Block: Copy {
     fn of(entry: BlockCacheEntry, tops: TopBlocks) -> Self
         ensures { result ≡ parts.of entry tops };
 
-    // What a candidate becomes, and what a received record does.
+    // What a candidate becomes, and what a received record does. An `impl` needn't write them.
     fn fresh_collated(c: BlockCandidate) -> Self
-        ensures { result ≡ parts.of (pack_entry (fresh_collated c)) (stored_tops c.top_blocks) };
+        ensures { result ≡ parts.of (pack_entry (fresh_collated c)) (stored_tops c.top_blocks) }
+    {
+        Self::of(fresh_collated(c), stored_tops(c.top_blocks))
+    }
 
     fn fresh_received(zerostate: u32, r: ReceivedBlock) -> Self
-        ensures { result ≡ parts.of (pack_entry (fresh_received zerostate r)) (stored_tops r.top_blocks) };
+        ensures { result ≡ parts.of (pack_entry (fresh_received zerostate r)) (stored_tops r.top_blocks) }
+    {
+        Self::of(fresh_received(zerostate, r), stored_tops(r.top_blocks))
+    }
 
     fn entry(&self) -> &BlockCacheEntry
         ensures { result.now ≡ parts.entry self.now };

@@ -6,6 +6,8 @@ mod expected;
 mod ids;
 mod masters;
 mod outcome;
+#[cfg(test)]
+mod own_block;
 mod places;
 mod subgraphs;
 mod trial;
