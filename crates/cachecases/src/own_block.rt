@@ -1,7 +1,7 @@
 // A type of block as another crate may write it: what a candidate and a received record become is left to the trait.
 ghost use Rattle.std.specs.Prelude.{refl};
 
-use crate::expected::received;
+use crate::expected::{entry, received};
 use crate::ids::{after, mc, sc, top, tops};
 use block_records::entry::{BlockCacheEntry, BlockCacheEntryData, CandidateStatus, MasterBlock};
 use block_records::store_records::{BlockCandidate, ReceivedBlock, zero_prev_ids};
@@ -77,27 +77,22 @@ fn stores_what_the_trait_makes(rt: HostRuntime) {
     let stored = group
         .store_collated(candidate(given))
         .and_then(|left| left.group.store_received(9, record(given)));
+    let collated = BlockCacheEntryData::Collated {
+        status: CandidateStatus::Collated,
+        received_after_collation: false,
+        signatures: 0,
+        total_signature_weight: 0,
+        processed_to_anchor: 8,
+    };
     let m5 = BlockCacheEntry {
-        block_id: mc(5),
-        prev_ids: after(mc(4)),
         top_anchor: Some(3),
-        ref_by_mc_seqno: 6,
         payload: 7,
-        data: BlockCacheEntryData::Collated {
-            status: CandidateStatus::Collated,
-            received_after_collation: false,
-            signatures: 0,
-            total_signature_weight: 0,
-            processed_to_anchor: 8,
-        },
+        ..entry(mc(5), 6, after(mc(4)), collated)
     };
     let m6 = BlockCacheEntry {
-        block_id: mc(6),
-        prev_ids: zero_prev_ids(),
         top_anchor: Some(4),
-        ref_by_mc_seqno: 9,
         payload: 2,
-        data: received(false),
+        ..entry(mc(6), 9, zero_prev_ids(), received(false))
     };
     let expected = (Some(OwnBlock::of(m5, one)), Some(OwnBlock::of(m6, one)));
     let blocks = stored.map(|left| (left.group.at(5), left.group.at(6)));
